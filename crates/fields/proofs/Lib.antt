@@ -1,0 +1,5 @@
+pub mod Cases
+pub mod Determined
+pub mod Lists
+pub mod Masks
+pub mod Told

@@ -1,0 +1,11 @@
+-- Frequency (the standard, 5.4 and 5.6; document 01): 24 bits, low byte first, times 100 Hz.
+use Prim.Native.Nat.{ℕ, _*_}
+use mathlib.Core.List.{List, [], _∷_}
+use Rattle.fields.specs.declared.frequency.Frequency.{Frequency}
+use Rattle.fields.specs.Lists.{lowFirst}
+
+abbrev pub bytesOf : Frequency → List ℕ
+bytesOf f = f .0 ∷ f .1 ∷ f .2 ∷ []
+
+abbrev pub hertz : List ℕ → ℕ
+hertz bytes = lowFirst bytes * 100

@@ -1,0 +1,7 @@
+pub mod Cases
+pub mod Frequency
+pub mod Lists
+pub mod Mask
+pub mod Places
+pub mod Settings
+pub mod Told
