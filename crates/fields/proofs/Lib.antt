@@ -2,4 +2,5 @@ pub mod Cases
 pub mod Determined
 pub mod Lists
 pub mod Masks
+pub mod Ranges
 pub mod Told
