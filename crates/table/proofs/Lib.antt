@@ -1,2 +1,4 @@
 pub mod Determined
+pub mod Lengths
+pub mod Packed
 pub mod Told

@@ -19,13 +19,18 @@ pub enum Length {
     Known(usize),
 }
 
-// The one of two numbers that belongs to the direction.
-fn side(direction: Direction, down: usize, up: usize) -> usize
-    ensures { λ r. ⌜ r ≡ sideOf direction down up ⌝ }
+// The table as the walk asks it, at every byte: the payload length of each CID below 16 in four bits of its own, those of CID 0 the
+// lowest, with 15 for no CID.
+const DOWN: u64 = 0xFF5F_F411_5041_42FF;
+
+const UP: u64 = 0xFF0F_F100_1210_10FF;
+
+fn lengths(direction: Direction) -> u64
+    ensures { λ r. ⌜ r ≡ sideOf direction 0xFF5F_F411_5041_42FF 0xFF0F_F100_1210_10FF ⌝ }
 {
     match direction {
-        Direction::Down => down,
-        Direction::Up => up,
+        Direction::Down => DOWN,
+        Direction::Up => UP,
     }
 }
 
@@ -40,19 +45,15 @@ impl Rules {
     pub fn payload_len(self, cid: u8) -> Length
         ensures { λ r. ⌜ toldLength r ≡ lengthOf self cid ⌝ }
     {
+        if 15 < cid {
+            return Length::Unknown;
+        }
         let direction = self.direction;
-        match cid {
-            0x02 => Length::Known(side(direction, 2, 0)),
-            0x03 => Length::Known(side(direction, 4, 1)),
-            0x04 => Length::Known(side(direction, 1, 0)),
-            0x05 => Length::Known(side(direction, 4, 1)),
-            0x06 => Length::Known(side(direction, 0, 2)),
-            0x07 => Length::Known(side(direction, 5, 1)),
-            0x08 => Length::Known(side(direction, 1, 0)),
-            0x09 => Length::Known(side(direction, 1, 0)),
-            0x0A => Length::Known(side(direction, 4, 1)),
-            0x0D => Length::Known(side(direction, 5, 0)),
-            _ => Length::Unknown,
+        let four = (lengths(direction) >> (4 * cid)) % 16;
+        if four == 15 {
+            Length::Unknown
+        } else {
+            Length::Known(four as usize)
         }
     }
 }
