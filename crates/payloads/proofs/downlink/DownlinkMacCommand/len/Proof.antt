@@ -1,0 +1,129 @@
+-- `DownlinkMacCommand::len` meets its contract: each case by its type. Assumes nothing.
+use borrow.Author.Needs.{needs}
+use Rattle.payloads.proofs.downlink.DownlinkMacCommand.len.Statement.{statement}
+use Rattle.payloads.proofs.downlink.DownlinkMacCommand.len.Tie as tie
+
+enum-told : tie.Need-enum-told
+enum-told c = search needs
+
+len-requires : tie.Need-len-requires
+len-requires c κs = search needs
+
+enum-told-2 : tie.Need-enum-told-2
+enum-told-2 c = search needs
+
+len-requires-2 : tie.Need-len-requires-2
+len-requires-2 c κs = search needs
+
+enum-told-3 : tie.Need-enum-told-3
+enum-told-3 c = search needs
+
+len-requires-3 : tie.Need-len-requires-3
+len-requires-3 c κs = search needs
+
+enum-told-4 : tie.Need-enum-told-4
+enum-told-4 c = search needs
+
+len-requires-4 : tie.Need-len-requires-4
+len-requires-4 c κs = search needs
+
+enum-told-5 : tie.Need-enum-told-5
+enum-told-5 c = search needs
+
+len-requires-5 : tie.Need-len-requires-5
+len-requires-5 c κs = search needs
+
+enum-told-6 : tie.Need-enum-told-6
+enum-told-6 c = search needs
+
+len-requires-6 : tie.Need-len-requires-6
+len-requires-6 c κs = search needs
+
+enum-told-7 : tie.Need-enum-told-7
+enum-told-7 c = search needs
+
+len-requires-7 : tie.Need-len-requires-7
+len-requires-7 c κs = search needs
+
+enum-told-8 : tie.Need-enum-told-8
+enum-told-8 c = search needs
+
+len-requires-8 : tie.Need-len-requires-8
+len-requires-8 c κs = search needs
+
+enum-told-9 : tie.Need-enum-told-9
+enum-told-9 c = search needs
+
+len-requires-9 : tie.Need-len-requires-9
+len-requires-9 c κs = search needs
+
+enum-told-10 : tie.Need-enum-told-10
+enum-told-10 c = search needs
+
+len-requires-10 : tie.Need-len-requires-10
+len-requires-10 c κs = search needs
+
+returns : tie.Need-returns
+returns c = rw (c .before .enum-told .given .1) (c .len .ensures)
+
+returns-2 : tie.Need-returns-2
+returns-2 c = rw (c .before .enum-told2 .given .1) (c .len2 .ensures)
+
+returns-3 : tie.Need-returns-3
+returns-3 c = rw (c .before .enum-told3 .given .1) (c .len3 .ensures)
+
+returns-4 : tie.Need-returns-4
+returns-4 c = rw (c .before .enum-told4 .given .1) (c .len4 .ensures)
+
+returns-5 : tie.Need-returns-5
+returns-5 c = rw (c .before .enum-told5 .given .1) (c .len5 .ensures)
+
+returns-6 : tie.Need-returns-6
+returns-6 c = rw (c .before .enum-told6 .given .1) (c .len6 .ensures)
+
+returns-7 : tie.Need-returns-7
+returns-7 c = rw (c .before .enum-told7 .given .1) (c .len7 .ensures)
+
+returns-8 : tie.Need-returns-8
+returns-8 c = rw (c .before .enum-told8 .given .1) (c .len8 .ensures)
+
+returns-9 : tie.Need-returns-9
+returns-9 c = rw (c .before .enum-told9 .given .1) (c .len9 .ensures)
+
+returns-10 : tie.Need-returns-10
+returns-10 c = rw (c .before .enum-told10 .given .1) (c .len10 .ensures)
+
+pub len-spec : {M : Type 1} → statement M
+len-spec =
+    tie.close
+    (tie.spec
+    enum-told
+    len-requires
+    enum-told-2
+    len-requires-2
+    enum-told-3
+    len-requires-3
+    enum-told-4
+    len-requires-4
+    enum-told-5
+    len-requires-5
+    enum-told-6
+    len-requires-6
+    enum-told-7
+    len-requires-7
+    enum-told-8
+    len-requires-8
+    enum-told-9
+    len-requires-9
+    enum-told-10
+    len-requires-10
+    returns
+    returns-2
+    returns-3
+    returns-4
+    returns-5
+    returns-6
+    returns-7
+    returns-8
+    returns-9
+    returns-10)

@@ -1,0 +1,66 @@
+-- What the fields mean that are more than a number or a flag (document 01, "Payload readers"). A field's place is in
+-- Rattle.fields.specs.Places, its meaning here, and nowhere else.
+use Prim.Native.Nat.{ℕ, _+_, _-_, _*_, _^_}
+use mathlib.Core.Bool.{false, cond}
+use mathlib.Core.List.{List, [], _∷_}
+use lib.Dec.{ltb}
+use lib.IntN.{ℤ, pos, _-ℤ_}
+use lib.Ieee.{Float, fin, minus}
+use lib.ListN.{getD, length}
+use Rattle.fields.specs.Places.{
+  numberAt,
+  bytesAt,
+  DutyCycleReq·maxDutyCycle,
+  DevStatusAns·margin,
+  RXTimingSetupReq·delay,
+  TXParamSetupReq·maxEirp,
+  DeviceTimeAns·seconds,
+  DeviceTimeAns·fraction,
+}
+
+-- ---- DutyCycleReq (the standard, 5.3)
+
+-- 1 / 2 ^ n as a float: `fin false m e` is the number m * 2 ^ e
+abbrev pub oneOver2To : ℕ → Float
+oneOver2To n = fin false 1 (minus 0 n)
+
+abbrev pub maxDutyCycleOf : List ℕ → Float
+maxDutyCycleOf payload = oneOver2To (numberAt DutyCycleReq·maxDutyCycle payload)
+
+-- ---- DevStatusAns (the standard, 5.5)
+
+-- a number of some bits as a signed number: from half of 2 ^ bits on, less 2 ^ bits
+abbrev pub signed : ℕ → ℕ → ℤ
+signed bits n = cond (ltb n (2 ^ (bits - 1))) (pos n) (pos n -ℤ pos (2 ^ bits))
+
+abbrev pub marginOf : List ℕ → ℤ
+marginOf payload = signed (DevStatusAns·margin .width) (numberAt DevStatusAns·margin payload)
+
+-- ---- RXTimingSetupReq: the number as it stands. (The standard, 5.7, gives 0 the meaning of 1 second.)
+
+abbrev pub delayOf : List ℕ → ℕ
+delayOf payload = numberAt RXTimingSetupReq·delay payload
+
+-- ---- TXParamSetupReq (the standard, 5.8)
+
+-- the powers in dBm, by the number that stands for each
+abbrev pub powers : List ℕ
+powers = 8 ∷ 10 ∷ 12 ∷ 13 ∷ 14 ∷ 16 ∷ 18 ∷ 20 ∷ 21 ∷ 24 ∷ 26 ∷ 27 ∷ 29 ∷ 30 ∷ 33 ∷ 36 ∷ []
+
+abbrev pub maxEirpOf : List ℕ → ℕ
+maxEirpOf payload = getD powers (numberAt TXParamSetupReq·maxEirp payload) 0
+
+-- ---- DeviceTimeAns (the standard, 5.9)
+
+-- the number that bytes make, high byte first
+abbrev pub highFirst : List ℕ → ℕ
+highFirst [] = 0
+highFirst (b ∷ bs) = b * 256 ^ length bs + highFirst bs
+
+-- the Rust reads the seconds high byte first. (The standard sends them low byte first.)
+abbrev pub secondsOf : List ℕ → ℕ
+secondsOf payload = highFirst (bytesAt DeviceTimeAns·seconds payload)
+
+-- a step of 1/256 second is 3,906,250 nanoseconds
+abbrev pub nanoSecondsOf : List ℕ → ℕ
+nanoSecondsOf payload = numberAt DeviceTimeAns·fraction payload * 3_906_250
