@@ -1,0 +1,20 @@
+-- `Record::of_uplink_creator` meets its contract. Assumes nothing.
+use Prim.Native.Nat.{ℕ, _≤_}
+use mathlib.Core.Path.{_≡_, ap, _∙_}
+use native.Mathlib.Omega.{arith}
+use Rattle.build.specs.Records.{ofImage}
+use borrow.Author.Needs.{needs}
+use Rattle.build.proofs.record.Record.of_uplink_creator.Statement.{statement}
+use Rattle.build.proofs.record.Record.of_uplink_creator.Tie as tie
+
+build-requires : tie.Need-build-requires
+build-requires c κs = search needs
+
+of-image-requires : tie.Need-of-image-requires
+of-image-requires c κs = omega (arith, ap (λ i. i .0) (c .build .ensures))
+
+returns : tie.Need-returns
+returns c = c .of-image .ensures ∙ ap ofImage (c .before .build .ensures)
+
+pub of-uplink-creator-spec : {M : Type 1} → statement M
+of-uplink-creator-spec = tie.close (tie.spec build-requires of-image-requires returns)

@@ -1,0 +1,5 @@
+pub mod Build
+pub mod Cases
+pub mod Records
+pub mod ThereAndBack
+pub mod Told

@@ -1,0 +1,48 @@
+-- What is claimed of the build (demand 3, d and e; document 01, "Build"), for any rule and any lists. proofs/ThereAndBack.antt proves it.
+use Prim.Native.Nat.{ℕ, _≤_}
+use mathlib.Core.Path.{_≡_}
+use mathlib.Core.Logic.{_↔_}
+use mathlib.Core.List.{List, [], _∷_}
+use mathlib.Core.Option.{some}
+use lib.ListN.{length, take, drop}
+use Rattle.walk.specs.Walk.{Rule, end, walkOf, encode, place}
+use Rattle.build.specs.Records.{Rec, Item, whole, part, cmdsOf}
+use Rattle.build.specs.Build.{Built, total, totalOf, buildOf}
+
+-- a list of well-formed commands: each a whole record whose length is what the rule gives its CID, with payload bytes to that length
+abbrev pub Commands : Rule → List Item → Type 0
+Commands L [] = Unit
+Commands L (whole r ∷ xs) = (L (r .cid) ≡ some (r .len)) × (r .len ≤ length (r .bytes)) × Commands L xs
+Commands L (part ∷ xs) = ⊥
+
+-- no record says more than its bytes hold and is taken: so of records with five bytes, under a rule that gives at most five
+abbrev pub Full : Rule → List Item → Type 0
+Full L [] = Unit
+Full L (whole r ∷ xs) = (L (r .cid) ≡ some (r .len) → r .len ≤ length (r .bytes)) × Full L xs
+Full L (part ∷ xs) = Full L xs
+
+module _ (L : Rule) (xs : List Item) where
+  -- (d) "building a list of at most 4,096 well-formed commands of one direction that fits, then walking the bytes written, gives that
+  -- list and the end"; "later bytes stay"
+  pub record WalksBack (out : List ℕ) : Type 0 where
+    pub size : buildOf L xs out .0 ≡ total (length (encode (cmdsOf xs)))
+    pub walk : walkOf L (take (length (encode (cmdsOf xs))) (buildOf L xs out .1))
+        ≡ record { cmds = place 0 (cmdsOf xs); ending = end (length (encode (cmdsOf xs))) }
+    pub later : drop (length (encode (cmdsOf xs))) (buildOf L xs out .1) ≡ drop (length (encode (cmdsOf xs))) out
+
+  abbrev pub BuildThenWalk : Type 0
+  BuildThenWalk = (out : List ℕ) → length xs ≤ 4096 → Commands L xs → length (encode (cmdsOf xs)) ≤ length out → WalksBack out
+
+  -- the build accepts exactly the lists of well-formed commands that fit
+  abbrev pub Accepts : Type 0
+  Accepts = (out : List ℕ) → Full L xs
+      → ((n : ℕ) × (buildOf L xs out .0 ≡ total n)) ↔ ((length xs ≤ 4096) × Commands L xs × (length (encode (cmdsOf xs)) ≤ length out))
+
+  -- `mac_commands_len` is the number of bytes that the build writes
+  abbrev pub LengthIsWritten : Type 0
+  LengthIsWritten = (n : ℕ) → Full L xs → totalOf L xs ≡ total n → n ≡ length (encode (cmdsOf xs))
+
+-- (e) "two such lists of the same direction with equal bytes are equal". Bytes past a record's length don't count
+abbrev pub EqualBytesEqualLists : Rule → Type 0
+EqualBytesEqualLists L =
+    (xs ys : List Item) → Commands L xs → Commands L ys → encode (cmdsOf xs) ≡ encode (cmdsOf ys) → cmdsOf xs ≡ cmdsOf ys

@@ -1,0 +1,19 @@
+-- What the answers of this crate tell, in document 01's terms.
+use Prim.Native.Nat.{ℕ}
+use Rattle.table.specs.Answers.{Answer, given}
+use Rattle.table.specs.Answers as Answers
+use Rattle.table.specs.Refusals.{numberOf}
+use Rattle.build.specs.declared.record.Judged.{Judged}
+use Rattle.build.specs.declared.record.Judged.the-variants as Judged
+use Rattle.build.specs.declared.packed.BuildAnswer.{BuildAnswer}
+use Rattle.build.specs.declared.packed.BuildAnswer.the-variants as BuildAnswer
+use Rattle.build.specs.Build.{Built, total, refusedAt, refused}
+
+abbrev pub toldJudged : Judged → Answer ℕ
+toldJudged (Judged.Size n) = given n
+toldJudged (Judged.Refused r) = Answers.refused (numberOf r)
+
+abbrev pub toldBuild : BuildAnswer → Built
+toldBuild (BuildAnswer.Total n) = total n
+toldBuild (BuildAnswer.RefusedAt r place) = refusedAt (numberOf r) place
+toldBuild (BuildAnswer.Refused r) = refused (numberOf r)

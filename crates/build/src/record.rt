@@ -1,0 +1,113 @@
+use table::Length;
+use table::Refusal;
+use table::Rules;
+ghost use mathlib.Core.Path.{_≡_};
+ghost use Prim.Native.Nat.{_+_, _≤_};
+ghost use lib.ListN.{length, take};
+ghost use lib.Seq.{paste};
+ghost use Rattle.table.specs.Table.{lengthOf};
+ghost use Rattle.build.specs.Records.{judged, heldBy, writtenAt, packedAt, lenByte, noRecord};
+ghost use Rattle.build.specs.Told.{toldJudged};
+
+// A command to be written: its CID, the length of its payload, and up to five payload bytes. Bytes past the length don't count.
+pub struct Record {
+    pub cid: u8,
+    pub len: usize,
+    pub payload: [u8; 5],
+}
+
+// A record held against a book of rules: the bytes that its command takes, CID included, or why it is refused.
+pub enum Judged {
+    Size(usize),
+    Refused(Refusal),
+}
+
+impl Record {
+    // The record of no command: no table has CID 0.
+    pub fn none() -> Record
+        ensures { λ r. ⌜ r ≡ noRecord ⌝ }
+    {
+        Record {
+            cid: 0,
+            len: 0,
+            payload: [0; 5],
+        }
+    }
+
+    pub fn judge(self, rules: Rules) -> Judged
+        ensures { λ r. ⌜ toldJudged r ≡ judged (lengthOf rules) (heldBy self) ⌝ }
+    {
+        let len = self.len;
+        let length = rules.payload_len(self.cid);
+        match length {
+            Length::Unknown => Judged::Refused(Refusal::UnknownMacCommand),
+            Length::Known(n) => {
+                if len == n {
+                    Judged::Size(1 + n)
+                } else {
+                    Judged::Refused(Refusal::WrongLength)
+                }
+            }
+        }
+    }
+
+    // The payload bytes that count: those before the length.
+    fn counted(self) -> usize
+        ensures { λ r. ⌜ r ≡ length (take (self .len) (self .payload)) ⌝ }
+    {
+        let len = self.len;
+        if len < 5 { len } else { 5 }
+    }
+
+    // Writes CID and payload at an offset, and answers the offset behind them. Where there is no room for them, nothing is written,
+    // and the answer is the offset itself.
+    pub fn write(self, out: &mut [u8], at: usize) -> usize
+        ensures { λ r. ⌜ (r, now (out .exit)) ≡ writtenAt (now (out .entry)) at (heldBy self) ⌝ }
+    {
+        let n = self.counted();
+        if out.len() <= at {
+            return at;
+        }
+        let body = at + 1;
+        if out.len() - body < n {
+            return at;
+        }
+        let payload = self.payload;
+        out[at] = self.cid;
+        copy(&payload, n, out, body);
+        body + n
+    }
+
+    // Puts the record into slot i of packed records; the slot's eighth byte stays. Where there is no such slot, nothing is written.
+    pub fn pack(self, slots: &mut [u8], i: usize)
+        ensures { λ _. ⌜ now (slots .exit) ≡ packedAt (now (slots .entry)) i (heldBy self) ⌝ }
+    {
+        if i < slots.len() / 8 {
+            let at = 8 * i;
+            let n = len_byte(self.len);
+            let p = self.payload;
+            let bytes = [self.cid, n, p[0], p[1], p[2], p[3], p[4]];
+            copy(&bytes, 7, slots, at);
+        }
+    }
+}
+
+// A length in one byte, 255 where it has no room there.
+fn len_byte(len: usize) -> u8
+    ensures { λ r. ⌜ r ≡ lenByte len ⌝ }
+{
+    if len < 256 { len as u8 } else { 255 }
+}
+
+// The first n of the bytes, put over those of out from an offset on.
+fn copy(bytes: &[u8], n: usize, out: &mut [u8], at: usize)
+    requires { ⌜ n ≤ length (now bytes) ⌝ }
+    requires { ⌜ at + n ≤ length (now out) ⌝ }
+    ensures { λ _. ⌜ now (out .exit) ≡ paste (now (out .entry)) at (now (bytes .entry)) n ⌝ }
+{
+    let mut j = 0;
+    while j < n {
+        out[at + j] = bytes[j];
+        j += 1;
+    }
+}

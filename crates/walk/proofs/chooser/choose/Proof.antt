@@ -1,0 +1,44 @@
+-- `choose` meets its contract. Assumes nothing.
+use mathlib.Core.Path.{sym, ap, _∙_}
+use Rattle.table.specs.Told.{toldVerdict}
+use Rattle.walk.proofs.Parts.{front-is}
+use borrow.Author.Needs.{needs}
+use Rattle.walk.proofs.chooser.choose.Statement.{statement}
+use Rattle.walk.proofs.chooser.choose.Tie as tie
+
+choose-verdict-requires : tie.Need-choose-verdict-requires
+choose-verdict-requires c κs = search needs
+
+enum-told : tie.Need-enum-told
+enum-told c = search needs
+
+in-payload-requires : tie.Need-in-payload-requires
+in-payload-requires c κs = search needs
+
+enum-told-2 : tie.Need-enum-told-2
+enum-told-2 c = search needs
+
+slice-aggregate-result : tie.Need-slice-aggregate-result
+slice-aggregate-result c = search needs
+
+returns : tie.Need-returns
+returns c = rw (sym (c .before .before .before .before .choose-verdict .ensures) ∙ ap toldVerdict (c .before .before .enum-told .given .1), sym (c .before .in-payload .ensures) ∙ c .if1 .taken)
+
+returns-2 : tie.Need-returns-2
+returns-2 c = rw (sym (c .before .before .before .before .choose-verdict .ensures) ∙ ap toldVerdict (c .before .before .enum-told .given .1), sym (c .before .in-payload .ensures) ∙ c .if1 .left)
+
+returns-3 : tie.Need-returns-3
+returns-3 c = rw (sym (c .before .before .before .choose-verdict .ensures) ∙ ap toldVerdict (c .before .enum-told2 .given .1)) (front-is (c .before .before .before .before .before .before .args .fopts))
+
+pub choose-spec : {M : Type 1} → statement M
+choose-spec =
+    tie.close
+    (tie.spec
+    choose-verdict-requires
+    enum-told
+    in-payload-requires
+    enum-told-2
+    slice-aggregate-result
+    returns
+    returns-2
+    returns-3)

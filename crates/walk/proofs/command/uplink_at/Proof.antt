@@ -1,0 +1,64 @@
+-- `uplink_at` meets its contract. Assumes nothing.
+use mathlib.Core.Path.{sym, ap, _∙_}
+use Rattle.table.specs.Table.{lengthOf}
+use Rattle.payloads.specs.Commands.{sentUp}
+use Rattle.walk.specs.Command.{uplinkCmd, StandsAt}
+use Rattle.walk.specs.Step.{foundAt}
+use Rattle.walk.specs.Told.{toldStep}
+use Rattle.walk.proofs.Commands.{next-is, no-command}
+use borrow.Author.Needs.{needs}
+use Rattle.walk.proofs.command.uplink_at.Statement.{statement}
+use Rattle.walk.proofs.command.uplink_at.Tie as tie
+
+-- the step gave a command
+abbrev stands : (c : tie.After-known-told) → StandsAt (lengthOf sentUp) (c .before .before .before .before .before .args .stream .now) (c .before .before .before .before .before .args .at) (c .before .found .given .0 .0)
+stands c = record {
+  len = c .before .found .given .0 .1 .0;
+  next = c .before .found .given .0 .1 .1 .0;
+  step = sym (c .before .before .before .step-at .ensures) ∙ ap toldStep (c .before .found .given .1);
+}
+
+step-at-requires : tie.Need-step-at-requires
+step-at-requires c κs = search needs
+
+enum-known-found : tie.Need-enum-known-found
+enum-known-found c = search needs
+
+uplink-command-requires : tie.Need-uplink-command-requires
+uplink-command-requires c κs = stands c
+
+enum-told : tie.Need-enum-told
+enum-told c = search needs
+
+enum-known-found-2 : tie.Need-enum-known-found-2
+enum-known-found-2 c = search needs
+
+enum-known-found-3 : tie.Need-enum-known-found-3
+enum-known-found-3 c = search needs
+
+returns : tie.Need-returns
+returns c = next-is (lengthOf sentUp) (c .before .before .before .before .before .before .args .stream .now) (c .before .before .before .before .before .before .args .at) _ (stands (c .before)) (uplinkCmd (c .uplink-command .result)) (c .uplink-command .ensures)
+
+returns-2 : tie.Need-returns-2
+returns-2 c = no-command (foundAt (lengthOf sentUp) (c .before .before .before .before .args .stream .now) (c .before .before .before .before .args .at)) (sym (c .before .before .step-at .ensures) ∙ ap toldStep (c .enum-told .given .1))
+
+returns-3 : tie.Need-returns-3
+returns-3 c = no-command (foundAt (lengthOf sentUp) (c .before .before .before .before .before .args .stream .now) (c .before .before .before .before .before .args .at)) (sym (c .before .before .before .step-at .ensures) ∙ ap toldStep (c .before .found2 .given .1))
+
+returns-4 : tie.Need-returns-4
+returns-4 c = no-command (foundAt (lengthOf sentUp) (c .before .before .before .before .before .args .stream .now) (c .before .before .before .before .before .args .at)) (sym (c .before .before .before .step-at .ensures) ∙ ap toldStep (c .before .found3 .given .1))
+
+pub uplink-at-spec : {M : Type 1} → statement M
+uplink-at-spec =
+    tie.close
+    (tie.spec
+    step-at-requires
+    enum-known-found
+    uplink-command-requires
+    enum-told
+    enum-known-found-2
+    enum-known-found-3
+    returns
+    returns-2
+    returns-3
+    returns-4)

@@ -1,0 +1,98 @@
+-- `payload_at` meets its contract. Assumes nothing.
+use Prim.Native.Nat.{_+_, _≤_}
+use mathlib.Core.Path.{_≡_, sym, ap, _∙_}
+use native.Mathlib.Omega.{arith}
+use lib.ListN.{length}
+use Rattle.table.specs.Answers.{given}
+use Rattle.walk.specs.Part.{partOf, payloadPart}
+use Rattle.walk.specs.Told.{toldStep}
+use Rattle.walk.proofs.Parts.{part-is, front-is}
+use Rattle.walk.proofs.Steps.{step-on}
+use borrow.Author.Needs.{needs}
+use Rattle.walk.proofs.step.payload_at.Statement.{statement}
+use Rattle.walk.proofs.step.payload_at.Tie as tie
+
+-- where the command's payload lies
+places : (c : tie.After-known-told)
+    → (c .before .found .given .0 .1 .1 .0 ≡ c .before .before .before .before .before .args .at + 1 + c .before .found .given .0 .1 .0)
+    × (c .before .found .given .0 .1 .1 .0 ≤ length (c .before .before .before .before .before .args .stream .now))
+places c = step-on _ _ _ (sym (c .before .before .before .step-at .ensures) ∙ ap toldStep (c .before .found .given .1))
+
+step-at-requires : tie.Need-step-at-requires
+step-at-requires c κs = search needs
+
+enum-known-found : tie.Need-enum-known-found
+enum-known-found c = search needs
+
+add-body : tie.Need-add-body
+add-body c = let m = places c in omega arith
+
+sub-result : tie.Need-sub-result
+sub-result c = let m = places c in omega arith
+
+part-result-start : tie.Need-part-result-start
+part-result-start c = let m = places c in omega arith
+
+part-result-end : tie.Need-part-result-end
+part-result-end c = let m = places c in omega arith
+
+enum-told : tie.Need-enum-told
+enum-told c = search needs
+
+slice-aggregate-result : tie.Need-slice-aggregate-result
+slice-aggregate-result c = search needs
+
+enum-told-2 : tie.Need-enum-told-2
+enum-told-2 c = search needs
+
+slice-aggregate-result-2 : tie.Need-slice-aggregate-result-2
+slice-aggregate-result-2 c = search needs
+
+enum-told-3 : tie.Need-enum-told-3
+enum-told-3 c = search needs
+
+slice-aggregate-result-3 : tie.Need-slice-aggregate-result-3
+slice-aggregate-result-3 c = search needs
+
+returns : tie.Need-returns
+returns c =
+    let a = c .before .before .before .before .before .before .args in
+    let m = places (c .before) in
+    part-is (a .stream) (a .at + 1) _ _ (m .0)
+    ∙ ap (payloadPart (a .stream) (a .at)) (ap toldStep (sym (c .before .before .found .given .1)) ∙ c .before .before .before .before .step-at .ensures)
+
+returns-2 : tie.Need-returns-2
+returns-2 c =
+    let a = c .before .before .before .before .before .args in
+    front-is (a .stream) ∙ ap (payloadPart (a .stream) (a .at)) (ap toldStep (sym (c .before .enum-told .given .1)) ∙ c .before .before .before .step-at .ensures)
+
+returns-3 : tie.Need-returns-3
+returns-3 c =
+    let a = c .before .before .before .before .before .args in
+    front-is (a .stream) ∙ ap (payloadPart (a .stream) (a .at)) (ap toldStep (sym (c .before .enum-told2 .given .1)) ∙ c .before .before .before .step-at .ensures)
+
+returns-4 : tie.Need-returns-4
+returns-4 c =
+    let a = c .before .before .before .before .before .args in
+    front-is (a .stream) ∙ ap (payloadPart (a .stream) (a .at)) (ap toldStep (sym (c .before .enum-told3 .given .1)) ∙ c .before .before .before .step-at .ensures)
+
+pub payload-at-spec : {M : Type 1} → statement M
+payload-at-spec =
+    tie.close
+    (tie.spec
+    step-at-requires
+    enum-known-found
+    add-body
+    sub-result
+    part-result-start
+    part-result-end
+    enum-told
+    slice-aggregate-result
+    enum-told-2
+    slice-aggregate-result-2
+    enum-told-3
+    slice-aggregate-result-3
+    returns
+    returns-2
+    returns-3
+    returns-4)

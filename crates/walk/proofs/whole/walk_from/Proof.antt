@@ -1,0 +1,77 @@
+-- `walk_from` meets its contract. The loop's invariant: the walk from `from` is that from `at`, and `count` commands more. The measure
+-- is what is left of the stream. Assumes nothing.
+use Prim.Native.Nat.{_-_, _≤_}
+use mathlib.Core.Path.{_≡_, refl, sym, ap, _∙_}
+use native.Mathlib.Omega.{arith}
+use lib.ListN.{length}
+use Rattle.table.specs.Table.{lengthOf}
+use Rattle.walk.specs.Step.{tallyFrom}
+use Rattle.walk.specs.Told.{toldStep}
+use Rattle.walk.proofs.Steps.{more, step-on, steps-begin, steps-go, steps-end}
+use borrow.Author.Needs.{needs}
+use Rattle.walk.proofs.whole.walk_from.Statement.{statement}
+use Rattle.walk.proofs.whole.walk_from.Tie as tie
+
+abbrev Inv-loop : tie.InvT-loop
+Inv-loop rules stream from at₀ count₀ at count = (count ≤ at) × (tallyFrom (lengthOf rules) stream from ≡ more count (tallyFrom (lengthOf rules) stream at))
+
+abbrev μ-loop : tie.MeasureT-loop
+μ-loop rules stream from at₀ count₀ at count = length stream - at
+
+loop-holds : tie.Need-loop-holds Inv-loop μ-loop
+loop-holds c = (omega arith, steps-begin _ _ _)
+
+step-at-requires : tie.Need-step-at-requires Inv-loop μ-loop
+step-at-requires c κs = search needs
+
+enum-known-found : tie.Need-enum-known-found Inv-loop μ-loop
+enum-known-found c = search needs
+
+add-count : tie.Need-add-count Inv-loop μ-loop
+add-count c = let m = step-on _ _ _ (sym (c .before .before .before .step-at .ensures) ∙ ap toldStep (c .before .found .given .1)) in omega arith
+
+loop-less : tie.Need-loop-less Inv-loop μ-loop
+loop-less c = let m = step-on _ _ _ (sym (c .before .before .before .step-at .ensures) ∙ ap toldStep (c .before .found .given .1)) in omega arith
+
+loop-again : tie.Need-loop-again Inv-loop μ-loop
+loop-again c =
+    let e = sym (c .before .before .before .step-at .ensures) ∙ ap toldStep (c .before .found .given .1) in
+    let m = step-on _ _ _ e in
+    (omega arith, steps-go _ _ _ _ _ (c .before .before .before .before .loop .inv .1) e)
+
+enum-told : tie.Need-enum-told Inv-loop μ-loop
+enum-told c = search needs
+
+enum-known-found-2 : tie.Need-enum-known-found-2 Inv-loop μ-loop
+enum-known-found-2 c = search needs
+
+enum-known-found-3 : tie.Need-enum-known-found-3 Inv-loop μ-loop
+enum-known-found-3 c = search needs
+
+returns : tie.Need-returns Inv-loop μ-loop
+returns c = steps-end _ _ _ _ _ (c .before .before .before .loop .inv .1) _ (sym (c .before .before .step-at .ensures) ∙ ap toldStep (c .enum-told .given .1)) refl
+
+returns-2 : tie.Need-returns-2 Inv-loop μ-loop
+returns-2 c = steps-end _ _ _ _ _ (c .before .before .before .before .loop .inv .1) _ (sym (c .before .before .before .step-at .ensures) ∙ ap toldStep (c .before .found2 .given .1)) refl
+
+returns-3 : tie.Need-returns-3 Inv-loop μ-loop
+returns-3 c = steps-end _ _ _ _ _ (c .before .before .before .before .loop .inv .1) _ (sym (c .before .before .before .step-at .ensures) ∙ ap toldStep (c .before .found3 .given .1)) refl
+
+pub walk-from-spec : {M : Type 1} → statement M
+walk-from-spec =
+    tie.close
+    (tie.spec
+    Inv-loop
+    μ-loop
+    loop-holds
+    step-at-requires
+    enum-known-found
+    add-count
+    loop-less
+    loop-again
+    enum-told
+    enum-known-found-2
+    enum-known-found-3
+    returns
+    returns-2
+    returns-3)

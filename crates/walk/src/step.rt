@@ -1,0 +1,75 @@
+use table::Length;
+use table::Refusal;
+use table::Rules;
+ghost use mathlib.Core.Path.{_≡_};
+ghost use Rattle.table.specs.Table.{lengthOf};
+ghost use Rattle.walk.specs.Part.{shown, payloadPart};
+ghost use Rattle.walk.specs.Step.{stepAt};
+ghost use Rattle.walk.specs.Told.{toldStep};
+
+// What stands at an offset of a stream.
+pub enum Step {
+    // The stream's end.
+    End,
+    // A command: its CID, the bytes of its payload, and the offset behind it.
+    Command { cid: u8, len: usize, next: usize },
+    // No command, and why: an unknown CID, or a payload cut short. A stop stays: its offset is the step's own.
+    Stop { reason: Refusal, at: usize },
+    // The offset is past the stream.
+    Refused(Refusal),
+}
+
+pub fn step_at(rules: Rules, stream: &[u8], at: usize) -> Step
+    ensures { λ r. ⌜ toldStep r ≡ stepAt (lengthOf rules) (now (stream .entry)) at ⌝ }
+{
+    if stream.len() <= at {
+        if stream.len() < at {
+            return Step::Refused(Refusal::InvalidIndex);
+        }
+        return Step::End;
+    }
+    let cid = stream[at];
+    let body = at + 1;
+    let length = rules.payload_len(cid);
+    match length {
+        Length::Unknown => Step::Stop {
+            reason: Refusal::UnknownMacCommand,
+            at,
+        },
+        Length::Known(len) => {
+            if len <= stream.len() - body {
+                Step::Command {
+                    cid,
+                    len,
+                    next: body + len,
+                }
+            } else {
+                Step::Stop {
+                    reason: Refusal::TruncatedPayload,
+                    at,
+                }
+            }
+        }
+    }
+}
+
+// The payload of the command at an offset, as the part of the stream just after its CID. Where the step gives no command, the
+// stream's empty front.
+pub fn payload_at(rules: Rules, stream: &[u8], at: usize) -> &[u8]
+    ensures { λ r. ⌜ shown r ≡ payloadPart (stream .entry) at (stepAt (lengthOf rules) (now (stream .entry)) at) ⌝ }
+{
+    let found = step_at(rules, stream, at);
+    match found {
+        Step::Command {
+            cid: _,
+            len: _,
+            next,
+        } => {
+            let body = at + 1;
+            &stream[body..next]
+        }
+        Step::End => &stream[..0],
+        Step::Stop { reason: _, at: _ } => &stream[..0],
+        Step::Refused(_) => &stream[..0],
+    }
+}
