@@ -16,7 +16,7 @@ use Rattle.table.specs.declared.rules.Direction.{Direction}
 use Rattle.table.specs.Table.{Row, lengthIn}
 use Rattle.fields.specs.Lists.{tabulate}
 use Rattle.walk.specs.Command.{StandsAt}
-use Rattle.walk.specs.Step.{Found, ended, command, stopped, Heading, heading, foundAt, inNumbers, stepAt}
+use Rattle.walk.specs.Step.{Found, ended, command, stopped, Heading, heading, foundAt, inNumbers}
 use Rattle.walk.specs.Walk.{Rule, Cmd, size}
 use Rattle.walk.proofs.Steps.{Goes, command-told, found-command}
 
@@ -87,29 +87,29 @@ as-told (refused n) = refl
 pub no-command : (x : Answer (Found Cmd)) {y : Answer (Found Heading)} → inNumbers x ≡ y → AsTold y x
 no-command x e = subst (λ (y : Answer (Found Heading)). AsTold y x) e (as-told x)
 
--- ---- the last row of a table is the one that is left where no other is
+-- ---- the row that is left where no other is
 
-abbrev pub allButLast : List Row → List Row
-allButLast [] = []
-allButLast (r ∷ []) = []
-allButLast (r ∷ (x ∷ rs)) = r ∷ allButLast (x ∷ rs)
+-- all rows but the k-th
+abbrev pub without : ℕ → List Row → List Row
+without k [] = []
+without zero (r ∷ rs) = rs
+without (suc k) (r ∷ rs) = r ∷ without k rs
 
-abbrev pub lastCid : List Row → ℕ
-lastCid [] = 0
-lastCid (r ∷ []) = r .cid
-lastCid (r ∷ (x ∷ rs)) = lastCid (x ∷ rs)
+abbrev pub cidOf : ℕ → List Row → ℕ
+cidOf k [] = 0
+cidOf zero (r ∷ rs) = r .cid
+cidOf (suc k) (r ∷ rs) = cidOf k rs
 
 apart : (b : Bool) (m n : ℕ) (x y : Option ℕ) → cond b (some m) x ≡ none → cond b (some m) y ≡ some n → (x ≡ none) × (y ≡ some n)
 apart true m n x y p q = let no-way : _≡_ {A = ℕ} 0 1 = cc in absurd (omega arith)
 apart false m n x y p q = (p, q)
 
-taken : (b : Bool) (m n : ℕ) → cond b (some m) none ≡ some n → b ≡ true
-taken true m n p = refl
-taken false m n p = let no-way : _≡_ {A = ℕ} 0 1 = cc in absurd (omega arith)
+taken : (b : Bool) (m n : ℕ) (x : Option ℕ) → x ≡ none → cond b (some m) x ≡ some n → b ≡ true
+taken true m n x p q = refl
+taken false m n x p q = let no-way : _≡_ {A = ℕ} 0 1 = cc in absurd (omega arith)
 
-pub row-left : (rs : List Row) (d : Direction) (c n : ℕ) → lengthIn (allButLast rs) d c ≡ none → lengthIn rs d c ≡ some n → c ≡ lastCid rs
-row-left [] d c n p q = let no-way : _≡_ {A = ℕ} 0 1 = cc in absurd (omega arith)
-row-left (r ∷ []) d c n p q = eqb-true c (r .cid) (taken (eqb c (r .cid)) _ n q)
-row-left (r ∷ (x ∷ rs)) d c n p q =
-    let t = apart (eqb c (r .cid)) _ n (lengthIn (allButLast (x ∷ rs)) d c) (lengthIn (x ∷ rs) d c) p q in
-    row-left (x ∷ rs) d c n (t .0) (t .1)
+pub row-left : (k : ℕ) (rs : List Row) (d : Direction) (c n : ℕ) → lengthIn (without k rs) d c ≡ none → lengthIn rs d c ≡ some n → c ≡ cidOf k rs
+row-left k [] d c n p q = let no-way : _≡_ {A = ℕ} 0 1 = cc in absurd (omega arith)
+row-left zero (r ∷ rs) d c n p q = eqb-true c (r .cid) (taken (eqb c (r .cid)) _ n (lengthIn rs d c) p q)
+row-left (suc k) (r ∷ rs) d c n p q =
+    let t = apart (eqb c (r .cid)) _ n (lengthIn (without k rs) d c) (lengthIn rs d c) p q in row-left k rs d c n (t .0) (t .1)

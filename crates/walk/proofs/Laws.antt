@@ -1,17 +1,16 @@
 -- The walk, by four equations and one view: nothing else opens its recursion. Assumes nothing.
 use Prim.Native.Nat.{ℕ, zero, suc, _+_, _≤_, _<_}
-use mathlib.Core.Bool.{cond}
-use mathlib.Core.List.{List, [], _∷_, _++_, append-nil, append-assoc}
+use mathlib.Core.List.{List, [], _∷_, _++_, append-assoc}
 use mathlib.Core.Option.{Option, none, some}
 use mathlib.Core.Path.{_≡_, refl, sym, ap, _∙_, subst}
 use native.Mathlib.Decide.{decLe}
-use native.Mathlib.Nat.{add-zero, zero-add, le-refl, not-suc-le-zero}
+use native.Mathlib.Nat.{add-zero, le-refl, not-suc-le-zero}
 use native.Mathlib.Omega.{arith}
 use lib.ListN.{length, take, drop, length-append, length-drop, take-append-drop}
 use lib.Seq.{take-append-seam, length-take-le}
 use borrow.Author.Tests.{le-leb, lt-leb}
 use Rattle.walk.specs.Ownership.{offsetOf, Ends, nothing-left, no-cid, cut-short}
-use Rattle.walk.specs.Walk.{Rule, Cmd, Placed, placed, Ending, end, stop, placeOf, Walk, finish, after, first, go, walkFrom, walkOf, WellFormed, encode, size, place, bare}
+use Rattle.walk.specs.Walk.{Rule, Cmd, Placed, placed, Ending, end, stop, placeOf, Walk, finish, after, first, go, walkFrom, WellFormed, encode, size, place, bare}
 
 -- the commands ps, and then the walk w
 abbrev pub afterAll : List Placed → Walk → Walk

@@ -1,5 +1,5 @@
 -- Who owns each byte: the claims of specs/Ownership.antt hold, for every rule and every stream. Assumes nothing.
-use Prim.Native.Nat.{ℕ, suc, _+_, _≤_}
+use Prim.Native.Nat.{ℕ, _+_, _≤_}
 use mathlib.Core.List.{List, [], _∷_, _++_, append-nil}
 use mathlib.Core.Path.{_≡_, refl, sym, ap, _∙_, subst}
 use native.Mathlib.Nat.{zero-add}
@@ -9,10 +9,10 @@ use lib.ListN.{length, take, drop, length-append, length-drop}
 use lib.Seq.{take-append-seam, drop-at, drop-drop}
 use denote.Ref.{RefT}
 use Rattle.table.specs.Answers.{Answer, given}
-use Rattle.walk.specs.Ownership.{offsetOf, Ends, Owned, EveryByteOwned, StopsOnlyThere, Division, OneDivision, FrontsAreBeginnings, CountFits, Resumes, Steps, finds, hands, StepsAreTheWalk, StepAndWalkAgree, StopsStay, PayloadShown, WalksBack, EqualBytesEqualLists}
+use Rattle.walk.specs.Ownership.{offsetOf, Ends, Owned, EveryByteOwned, StopsOnlyThere, Division, OneDivision, FrontsAreBeginnings, CountFits, Resumes, Steps, finds, hands, StepAndWalkAgree, StopsStay, PayloadShown, WalksBack, EqualBytesEqualLists}
 use Rattle.walk.specs.Part.{payloadPart}
-use Rattle.walk.specs.Step.{Found, command, stopped, firstOf, foundAt, inNumbers, stepAt}
-use Rattle.walk.specs.Walk.{Rule, Cmd, Placed, Ending, end, stop, placeOf, Walk, finish, after, walkFrom, walkOf, WellFormed, encode, size, place, bare}
+use Rattle.walk.specs.Step.{Found, stopped, firstOf, inNumbers, stepAt}
+use Rattle.walk.specs.Walk.{Rule, Cmd, Placed, Ending, end, stop, placeOf, Walk, finish, after, walkFrom, walkOf, encode, size, place, bare}
 use Rattle.walk.proofs.Laws.{afterAll, View, ends, goes, view, walk-nil, walk-command, walk-ends, ends-at, walk-front, Parted, parted, begins, stands}
 use Rattle.walk.proofs.Steps.{Goes, Here, here, past, ends as ends-here, goes as goes-here, ended-no-command, found-past, found-ends, found-goes, found-command, walk-goes}
 

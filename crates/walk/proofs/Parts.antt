@@ -4,9 +4,9 @@ use mathlib.Core.List.{List}
 use mathlib.Core.Path.{_≡_, sym, ap}
 use native.Mathlib.Nat.{zero-add}
 use native.Mathlib.Omega.{arith}
-use lib.ListN.{take, drop}
+use lib.ListN.{take}
 use denote.Ref.{RefT}
-use Rattle.walk.specs.Part.{Part, partOf, emptyFront}
+use Rattle.walk.specs.Part.{partOf, emptyFront}
 
 pub part-is : (s : RefT (List ℕ)) (a n e : ℕ) → e ≡ a + n → partOf s a (e - a) ≡ partOf s a n
 part-is s a n e h = let k : e - a ≡ n = omega arith in ap (partOf s a) k

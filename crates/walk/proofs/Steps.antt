@@ -13,7 +13,7 @@ use borrow.Author.Tests.{le-leb, lt-leb}
 use Rattle.table.specs.Answers.{Answer, given, refused}
 use Rattle.walk.specs.Ownership.{Ends, nothing-left, no-cid, cut-short}
 use Rattle.walk.specs.Step.{Found, ended, command, stopped, firstOf, firstMove, foundAt, Heading, heading, inNumbers, stepAt, tally, tallyFrom}
-use Rattle.walk.specs.Walk.{Rule, Cmd, Placed, Ending, end, stop, placeOf, Walk, finish, after, walkFrom, size}
+use Rattle.walk.specs.Walk.{Rule, Cmd, Ending, end, stop, placeOf, Walk, finish, after, walkFrom, size}
 use Rattle.walk.proofs.Laws.{ends-at, walk-ends, walk-command}
 
 -- one command more

@@ -26,7 +26,7 @@ fn in_payload(payload: &[u8], port: Port) -> bool
 {
     match port {
         Port::None => false,
-        Port::Number(n) => { if n == 0 { 0 < payload.len() } else { false } }
+        Port::Number(n) => if n == 0 { 0 < payload.len() } else { false },
     }
 }
 

@@ -108,10 +108,6 @@ fn uplink_command(stream: &[u8], at: usize, cid: u8) -> UplinkMacCommand
             let b = stream[body];
             UplinkMacCommand::RXParamSetupAns(RXParamSetupAnsPayload(b))
         }
-        0x06 => {
-            let b = two_at(stream, body);
-            UplinkMacCommand::DevStatusAns(DevStatusAnsPayload(b.0, b.1))
-        }
         0x07 => {
             let b = stream[body];
             UplinkMacCommand::NewChannelAns(NewChannelAnsPayload(b))
@@ -122,21 +118,22 @@ fn uplink_command(stream: &[u8], at: usize, cid: u8) -> UplinkMacCommand
             let b = stream[body];
             UplinkMacCommand::DlChannelAns(DlChannelAnsPayload(b))
         }
-        // 0x0D, the one CID that is left.
-        _ => UplinkMacCommand::DeviceTimeReq(DeviceTimeReqPayload()),
+        0x0D => UplinkMacCommand::DeviceTimeReq(DeviceTimeReqPayload()),
+        // 0x06, the one CID that is left.
+        _ => {
+            let b = two_at(stream, body);
+            UplinkMacCommand::DevStatusAns(DevStatusAnsPayload(b.0, b.1))
+        }
     }
 }
 
 pub fn uplink_at(stream: &[u8], at: usize) -> UplinkStep
     ensures { λ r. ⌜ toldUplinkStep r ≡ foundAt (lengthOf sentUp) (now (stream .entry)) at ⌝ }
 {
-    let found = step_at(
-        Rules {
-            direction: Direction::Up,
-        },
-        stream,
-        at,
-    );
+    let rules = Rules {
+        direction: Direction::Up,
+    };
+    let found = step_at(rules, stream, at);
     match found {
         Step::Command { cid, len: _, next } => UplinkStep::Command(
             uplink_command(stream, at, cid),
@@ -173,7 +170,6 @@ fn downlink_command(stream: &[u8], at: usize, cid: u8) -> DownlinkMacCommand
             let b = four_at(stream, body);
             DownlinkMacCommand::RXParamSetupReq(RXParamSetupReqPayload(b.0, b.1, b.2, b.3))
         }
-        0x06 => DownlinkMacCommand::DevStatusReq(DevStatusReqPayload()),
         0x07 => {
             let b = five_at(stream, body);
             DownlinkMacCommand::NewChannelReq(NewChannelReqPayload(b.0, b.1, b.2, b.3, b.4))
@@ -190,24 +186,22 @@ fn downlink_command(stream: &[u8], at: usize, cid: u8) -> DownlinkMacCommand
             let b = four_at(stream, body);
             DownlinkMacCommand::DlChannelReq(DlChannelReqPayload(b.0, b.1, b.2, b.3))
         }
-        // 0x0D, the one CID that is left.
-        _ => {
+        0x0D => {
             let b = five_at(stream, body);
             DownlinkMacCommand::DeviceTimeAns(DeviceTimeAnsPayload(b.0, b.1, b.2, b.3, b.4))
         }
+        // 0x06, the one CID that is left.
+        _ => DownlinkMacCommand::DevStatusReq(DevStatusReqPayload()),
     }
 }
 
 pub fn downlink_at(stream: &[u8], at: usize) -> DownlinkStep
     ensures { λ r. ⌜ toldDownlinkStep r ≡ foundAt (lengthOf sentDown) (now (stream .entry)) at ⌝ }
 {
-    let found = step_at(
-        Rules {
-            direction: Direction::Down,
-        },
-        stream,
-        at,
-    );
+    let rules = Rules {
+        direction: Direction::Down,
+    };
+    let found = step_at(rules, stream, at);
     match found {
         Step::Command { cid, len: _, next } => DownlinkStep::Command(
             downlink_command(stream, at, cid),

@@ -37,7 +37,8 @@ pub fn step_at(rules: Rules, stream: &[u8], at: usize) -> Step
             at,
         },
         Length::Known(len) => {
-            if len <= stream.len() - body {
+            // Of the bytes left, one is the CID.
+            if len < stream.len() - at {
                 Step::Command {
                     cid,
                     len,

@@ -1,76 +1,89 @@
 -- `uplink_command` meets its contract: each arm by the law of proofs/Commands.antt, the last by what the other keys leave. Assumes
 -- nothing.
-use mathlib.Core.Path.{refl}
+use Prim.Native.Nat.{ℕ, _+_, _≤_}
+use mathlib.Core.List.{List, [], _∷_}
+use mathlib.Core.Option.{none, some}
+use mathlib.Core.Path.{_≡_, refl}
 use native.Mathlib.Omega.{arith}
-use Prim.Native.Nat.{_+_}
+use lib.ListN.{length, getD, take, drop}
+use Rattle.table.specs.Answers.{given}
 use Rattle.table.specs.declared.rules.Direction.the-variants.{Up}
-use Rattle.table.specs.Table.{rows, lengthOf}
+use Rattle.table.specs.Table.{rows, lengthIn, lengthOf}
 use Rattle.fields.specs.Lists.{tabulate}
 use Rattle.payloads.specs.Commands.{sentUp}
 use Rattle.payloads.proofs.Rows.{missing}
-use Rattle.walk.proofs.Commands.{bytes-from, cid-within, known-is, room, arm, allButLast, row-left}
+use Rattle.walk.specs.Step.{command, foundAt}
+use Rattle.walk.specs.Walk.{size}
+use Rattle.walk.proofs.Commands.{bytes-from, cid-within, known-is, room, arm, without, row-left}
 use Rattle.walk.proofs.command.uplink_command.Statement.{statement}
 use Rattle.walk.proofs.command.uplink_command.Tie as tie
 
+cid-in : (c : tie.Start) → c .args .at + 1 ≤ length (c .args .stream .now)
+cid-in c = cid-within (lengthOf sentUp) (c .args .stream .now) (c .args .at) (c .args .cid) (c .pre)
+
+room-in : (c : tie.Start) (k n : ℕ) → c .args .cid ≡ k → lengthOf sentUp k ≡ some n → c .args .at + 1 + n ≤ length (c .args .stream .now)
+room-in c k n key rule = room (lengthOf sentUp) (c .args .stream .now) (c .args .at) (c .args .cid) (c .pre) k n key rule
+
+arm-in : (c : tie.Start) (k n : ℕ) (b : List ℕ) → c .args .cid ≡ k → lengthOf sentUp k ≡ some n → b ≡ take n (drop (c .args .at + 1) (c .args .stream .now))
+    → foundAt (lengthOf sentUp) (c .args .stream .now) (c .args .at) ≡ given (command (record { cid = k; body = b }) (c .args .at + size (record { cid = k; body = b })))
+arm-in c k n b key rule e = arm (lengthOf sentUp) (c .args .stream .now) (c .args .at) (c .args .cid) (c .pre) k n key rule b e
+
+one-in : (c : tie.Start) (k : ℕ) → c .args .cid ≡ k → lengthOf sentUp k ≡ some 1
+    → foundAt (lengthOf sentUp) (c .args .stream .now) (c .args .at) ≡ given (command (record { cid = k; body = getD (c .args .stream .now) (c .args .at + 1) 0 ∷ [] }) (c .args .at + 2))
+unfolding tabulate
+one-in c k key rule = arm-in c k 1 _ key rule (bytes-from 0 (c .args .stream .now) (c .args .at + 1) (room-in c k 1 key rule))
+
+-- where no other row of the table fits
+left-in : (c : tie.Start) → lengthIn (without 4 rows) Up (c .args .cid) ≡ none → c .args .cid ≡ 0x06
+left-in c h = row-left 4 rows Up (c .args .cid) _ h (known-is (lengthOf sentUp) (c .args .stream .now) (c .args .at) (c .args .cid) (c .pre))
+
 add-body : tie.Need-add-body
-add-body c = let m = cid-within (lengthOf sentUp) (c .before .args .stream .now) (c .before .args .at) (c .before .args .cid) (c .before .pre) in omega arith
+add-body c = let m = cid-in (c .before) in omega arith
 
 shared-slice-read-b : tie.Need-shared-slice-read-b
-shared-slice-read-b c = let m = room (lengthOf sentUp) (c .before .before .before .args .stream .now) (c .before .before .before .args .at) (c .before .before .before .args .cid) (c .before .before .before .pre) 3 1 (c .before .match .keys2) refl in omega arith
+shared-slice-read-b c = let m = room-in (c .before .before .before) 0x03 1 (c .before .match .keys2) refl in omega arith
 
 shared-slice-read-b-2 : tie.Need-shared-slice-read-b-2
-shared-slice-read-b-2 c = let m = room (lengthOf sentUp) (c .before .before .before .args .stream .now) (c .before .before .before .args .at) (c .before .before .before .args .cid) (c .before .before .before .pre) 5 1 (c .before .match .keys4) refl in omega arith
-
-two-at-requires : tie.Need-two-at-requires
-two-at-requires c κs = room (lengthOf sentUp) (c .before .before .args .stream .now) (c .before .before .args .at) (c .before .before .args .cid) (c .before .before .pre) 6 2 (c .match .keys5) refl
+shared-slice-read-b-2 c = let m = room-in (c .before .before .before) 0x05 1 (c .before .match .keys4) refl in omega arith
 
 shared-slice-read-b-3 : tie.Need-shared-slice-read-b-3
-shared-slice-read-b-3 c = let m = room (lengthOf sentUp) (c .before .before .before .args .stream .now) (c .before .before .before .args .at) (c .before .before .before .args .cid) (c .before .before .before .pre) 7 1 (c .before .match .keys6) refl in omega arith
+shared-slice-read-b-3 c = let m = room-in (c .before .before .before) 0x07 1 (c .before .match .keys5) refl in omega arith
 
 shared-slice-read-b-4 : tie.Need-shared-slice-read-b-4
-shared-slice-read-b-4 c = let m = room (lengthOf sentUp) (c .before .before .before .args .stream .now) (c .before .before .before .args .at) (c .before .before .before .args .cid) (c .before .before .before .pre) 10 1 (c .before .match .keys9) refl in omega arith
+shared-slice-read-b-4 c = let m = room-in (c .before .before .before) 0x0A 1 (c .before .match .keys8) refl in omega arith
+
+two-at-requires : tie.Need-two-at-requires
+two-at-requires c κs = room-in (c .before .before) 0x06 2 (left-in (c .before .before) (missing (without 4 rows) Up _ (c .match .rest))) refl
 
 returns : tie.Need-returns
-returns c = arm (lengthOf sentUp) (c .before .before .args .stream .now) (c .before .before .args .at) (c .before .before .args .cid) (c .before .before .pre) 2 0 (c .match .keys1) refl _ refl
+returns c = arm-in (c .before .before) 0x02 0 _ (c .match .keys1) refl refl
 
 returns-2 : tie.Need-returns-2
-unfolding tabulate
-returns-2 c =
-    let m = room (lengthOf sentUp) (c .before .before .before .args .stream .now) (c .before .before .before .args .at) (c .before .before .before .args .cid) (c .before .before .before .pre) 3 1 (c .before .match .keys2) refl in
-    arm (lengthOf sentUp) (c .before .before .before .args .stream .now) (c .before .before .before .args .at) (c .before .before .before .args .cid) (c .before .before .before .pre) 3 1 (c .before .match .keys2) refl _ (bytes-from 0 (c .before .before .before .args .stream .now) (c .before .before .before .args .at + 1) m)
+returns-2 c = one-in (c .before .before .before) 0x03 (c .before .match .keys2) refl
 
 returns-3 : tie.Need-returns-3
-returns-3 c = arm (lengthOf sentUp) (c .before .before .args .stream .now) (c .before .before .args .at) (c .before .before .args .cid) (c .before .before .pre) 4 0 (c .match .keys3) refl _ refl
+returns-3 c = arm-in (c .before .before) 0x04 0 _ (c .match .keys3) refl refl
 
 returns-4 : tie.Need-returns-4
-unfolding tabulate
-returns-4 c =
-    let m = room (lengthOf sentUp) (c .before .before .before .args .stream .now) (c .before .before .before .args .at) (c .before .before .before .args .cid) (c .before .before .before .pre) 5 1 (c .before .match .keys4) refl in
-    arm (lengthOf sentUp) (c .before .before .before .args .stream .now) (c .before .before .before .args .at) (c .before .before .before .args .cid) (c .before .before .before .pre) 5 1 (c .before .match .keys4) refl _ (bytes-from 0 (c .before .before .before .args .stream .now) (c .before .before .before .args .at + 1) m)
+returns-4 c = one-in (c .before .before .before) 0x05 (c .before .match .keys4) refl
 
 returns-5 : tie.Need-returns-5
-returns-5 c = arm (lengthOf sentUp) (c .before .before .before .args .stream .now) (c .before .before .before .args .at) (c .before .before .before .args .cid) (c .before .before .before .pre) 6 2 (c .before .match .keys5) refl _ (c .two-at .ensures)
+returns-5 c = one-in (c .before .before .before) 0x07 (c .before .match .keys5) refl
 
 returns-6 : tie.Need-returns-6
-unfolding tabulate
-returns-6 c =
-    let m = room (lengthOf sentUp) (c .before .before .before .args .stream .now) (c .before .before .before .args .at) (c .before .before .before .args .cid) (c .before .before .before .pre) 7 1 (c .before .match .keys6) refl in
-    arm (lengthOf sentUp) (c .before .before .before .args .stream .now) (c .before .before .before .args .at) (c .before .before .before .args .cid) (c .before .before .before .pre) 7 1 (c .before .match .keys6) refl _ (bytes-from 0 (c .before .before .before .args .stream .now) (c .before .before .before .args .at + 1) m)
+returns-6 c = arm-in (c .before .before) 0x08 0 _ (c .match .keys6) refl refl
 
 returns-7 : tie.Need-returns-7
-returns-7 c = arm (lengthOf sentUp) (c .before .before .args .stream .now) (c .before .before .args .at) (c .before .before .args .cid) (c .before .before .pre) 8 0 (c .match .keys7) refl _ refl
+returns-7 c = arm-in (c .before .before) 0x09 0 _ (c .match .keys7) refl refl
 
 returns-8 : tie.Need-returns-8
-returns-8 c = arm (lengthOf sentUp) (c .before .before .args .stream .now) (c .before .before .args .at) (c .before .before .args .cid) (c .before .before .pre) 9 0 (c .match .keys8) refl _ refl
+returns-8 c = one-in (c .before .before .before) 0x0A (c .before .match .keys8) refl
 
 returns-9 : tie.Need-returns-9
-unfolding tabulate
-returns-9 c =
-    let m = room (lengthOf sentUp) (c .before .before .before .args .stream .now) (c .before .before .before .args .at) (c .before .before .before .args .cid) (c .before .before .before .pre) 10 1 (c .before .match .keys9) refl in
-    arm (lengthOf sentUp) (c .before .before .before .args .stream .now) (c .before .before .before .args .at) (c .before .before .before .args .cid) (c .before .before .before .pre) 10 1 (c .before .match .keys9) refl _ (bytes-from 0 (c .before .before .before .args .stream .now) (c .before .before .before .args .at + 1) m)
+returns-9 c = arm-in (c .before .before) 0x0D 0 _ (c .match .keys9) refl refl
 
 returns-10 : tie.Need-returns-10
-returns-10 c = arm (lengthOf sentUp) (c .before .before .args .stream .now) (c .before .before .args .at) (c .before .before .args .cid) (c .before .before .pre) 13 0 (row-left rows Up (c .before .before .args .cid) _ (missing (allButLast rows) Up (c .before .before .args .cid) (c .match .rest)) (known-is (lengthOf sentUp) (c .before .before .args .stream .now) (c .before .before .args .at) (c .before .before .args .cid) (c .before .before .pre))) refl _ refl
+returns-10 c = arm-in (c .before .before .before) 0x06 2 _ (left-in (c .before .before .before) (missing (without 4 rows) Up _ (c .before .match .rest))) refl (c .two-at .ensures)
 
 pub uplink-command-spec : {M : Type 1} → statement M
 uplink-command-spec =
@@ -79,9 +92,9 @@ uplink-command-spec =
     add-body
     shared-slice-read-b
     shared-slice-read-b-2
-    two-at-requires
     shared-slice-read-b-3
     shared-slice-read-b-4
+    two-at-requires
     returns
     returns-2
     returns-3

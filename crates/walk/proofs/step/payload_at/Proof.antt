@@ -3,8 +3,7 @@ use Prim.Native.Nat.{_+_, _≤_}
 use mathlib.Core.Path.{_≡_, sym, ap, _∙_}
 use native.Mathlib.Omega.{arith}
 use lib.ListN.{length}
-use Rattle.table.specs.Answers.{given}
-use Rattle.walk.specs.Part.{partOf, payloadPart}
+use Rattle.walk.specs.Part.{payloadPart}
 use Rattle.walk.specs.Told.{toldStep}
 use Rattle.walk.proofs.Parts.{part-is, front-is}
 use Rattle.walk.proofs.Steps.{step-on}

@@ -38,10 +38,10 @@ returns-3 : tie.Need-returns-3
 returns-3 c = sym (step-unknown _ _ (omega arith) (sym (c .before .before .payload-len .ensures) ∙ ap toldLength (c .enum-told .given .1)))
 
 returns-4 : tie.Need-returns-4
-returns-4 c = sym (step-command _ _ _ (omega arith) (sym (c .before .before .before .before .payload-len .ensures) ∙ ap toldLength (c .before .before .length .given .1)) (c .if3 .taken))
+returns-4 c = sym (step-command _ _ _ (omega arith) (sym (c .before .before .before .before .payload-len .ensures) ∙ ap toldLength (c .before .before .length .given .1)) (omega arith))
 
 returns-5 : tie.Need-returns-5
-returns-5 c = sym (step-short _ _ _ (omega arith) (sym (c .before .before .before .before .payload-len .ensures) ∙ ap toldLength (c .before .before .length .given .1)) (c .if3 .left))
+returns-5 c = sym (step-short _ _ _ (omega arith) (sym (c .before .before .before .before .payload-len .ensures) ∙ ap toldLength (c .before .before .length .given .1)) (omega arith))
 
 pub step-at-spec : {M : Type 1} → statement M
 step-at-spec =
