@@ -153,6 +153,7 @@ use Rattle.creators.proofs.kinds.UplinkMacCommandCreator.from_rx_timing
 use Rattle.creators.proofs.kinds.UplinkMacCommandCreator.from_tx_param_setup_ans.Reads as uplink-from-tx-param-setup-ans
 use Rattle.creators.proofs.kinds.UplinkMacCommandCreator.from_dl_channel_ans.Reads as uplink-from-dl-channel-ans
 use Rattle.creators.proofs.kinds.UplinkMacCommandCreator.from_device_time_req.Reads as uplink-from-device-time-req
+use Rattle.creators.proofs.kinds.UplinkMacCommandCreator.kind.Reads as uplink-kind
 use Rattle.creators.proofs.kinds.UplinkMacCommandCreator.cid.Reads as uplink-cid
 use Rattle.creators.proofs.kinds.UplinkMacCommandCreator.len.Reads as uplink-len
 use Rattle.creators.proofs.kinds.UplinkMacCommandCreator.build.Reads as uplink-build
@@ -166,6 +167,7 @@ use Rattle.creators.proofs.kinds.DownlinkMacCommandCreator.from_rx_timi
 use Rattle.creators.proofs.kinds.DownlinkMacCommandCreator.from_tx_param_setup_req.Reads as downlink-from-tx-param-setup-req
 use Rattle.creators.proofs.kinds.DownlinkMacCommandCreator.from_dl_channel_req.Reads as downlink-from-dl-channel-req
 use Rattle.creators.proofs.kinds.DownlinkMacCommandCreator.from_device_time_ans.Reads as downlink-from-device-time-ans
+use Rattle.creators.proofs.kinds.DownlinkMacCommandCreator.kind.Reads as downlink-kind
 use Rattle.creators.proofs.kinds.DownlinkMacCommandCreator.cid.Reads as downlink-cid
 use Rattle.creators.proofs.kinds.DownlinkMacCommandCreator.len.Reads as downlink-len
 use Rattle.creators.proofs.kinds.DownlinkMacCommandCreator.build.Reads as downlink-build
@@ -611,6 +613,9 @@ uplink-from-dl-channel-ans-one _ _ _ _ _ _ p q = uplink-tells (p ∙ sym q)
 uplink-from-device-time-req-one : Fixed uplink-from-device-time-req.Post
 uplink-from-device-time-req-one _ _ _ _ _ _ p q = uplink-tells (p ∙ sym q)
 
+uplink-kind-one : Fixed uplink-kind.Post
+uplink-kind-one _ _ _ _ _ _ p q = p ∙ sym q
+
 uplink-cid-one : Fixed uplink-cid.Post
 uplink-cid-one _ _ _ _ _ _ p q = p ∙ sym q
 
@@ -649,6 +654,9 @@ downlink-from-dl-channel-req-one _ _ _ _ _ _ p q = downlink-tells (p ∙ sym q)
 
 downlink-from-device-time-ans-one : Fixed downlink-from-device-time-ans.Post
 downlink-from-device-time-ans-one _ _ _ _ _ _ p q = downlink-tells (p ∙ sym q)
+
+downlink-kind-one : Fixed downlink-kind.Post
+downlink-kind-one _ _ _ _ _ _ p q = p ∙ sym q
 
 downlink-cid-one : Fixed downlink-cid.Post
 downlink-cid-one _ _ _ _ _ _ p q = p ∙ sym q

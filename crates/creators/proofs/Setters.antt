@@ -1,12 +1,14 @@
 -- What is read after the setters of specs/Setters.antt, and what the dwell setters leave. Assumes nothing.
 use Prim.Native.Nat.{ℕ, _+_, _*_, _/_, _%_, _^_, _<_, _≤_}
 use mathlib.Core.Path.{_≡_, refl, sym, ap, _∙_, subst}
-use mathlib.Core.Bool.{Bool, true}
+use mathlib.Core.Bool.{Bool, true, false}
 use mathlib.Core.List.{List}
+use mathlib.Core.Logic.{inl, inr}
 use native.Mathlib.Omega.{arith}
 use lib.Dec.{lit<}
 use lib.IntN.{ℤ}
 use lib.ListN.{length, getD}
+use lib.Seq.{getD-drop}
 use borrow.Author.Tests.{le-leb}
 use Rattle.bits.specs.Bits.{field, bitOn}
 use Rattle.table.specs.Answers.{accepted}
@@ -43,6 +45,15 @@ module _ (lo : ℕ) (image : List ℕ) (here : 1 < length image) where
   dwell-leaves j k o z =
       leaves (bit 0 lo) (putAt TXParamSetupReq·bitZero image 0) 1 still (lit< tt) j k o
       ∙ leaves TXParamSetupReq·bitZero image 0 here (lit< tt) j k z
+
+  -- which is clear, where its own is another
+  pub dwell-clears : 0 < lo → yesAt TXParamSetupReq·bitZero (payloadOf (dwellAt (bit 0 lo) image)) ≡ false
+  unfolding dwellAt
+  dwell-clears h =
+      ap (bitOn 0) (getD-drop 1 (dwellAt (bit 0 lo) image) 0 0)
+      ∙ leaves (bit 0 lo) (putAt TXParamSetupReq·bitZero image 0) 1 still (lit< tt) 1 0 (inr (inl h))
+      ∙ sym (ap (bitOn 0) (getD-drop 1 (putAt TXParamSetupReq·bitZero image 0) 0 0))
+      ∙ says 0 0 image false here
 
 -- ---- DevStatusAns
 

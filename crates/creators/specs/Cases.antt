@@ -7,7 +7,7 @@ use Rattle.table.specs.Answers.{Answer, given, refused, accepted}
 use Rattle.table.specs.Table.{named}
 use Rattle.fields.specs.Places.{TXParamSetupReq·maxEirp, TXParamSetupReq·downlinkDwellTime}
 use Rattle.payloads.specs.Meanings.{maxEirpOf, secondsOf}
-use Rattle.creators.specs.Image.{newOf, payloadOf, checkedAt}
+use Rattle.creators.specs.Image.{newOf, checkedAt}
 use Rattle.creators.specs.Setters.{marginAt, dwellAt, secondsAt, nanoSecondsAt}
 
 pub data Case : Type 0 where

@@ -1,5 +1,5 @@
 use crate::engine::octet;
-use crate::engine::write;
+use crate::engine::run;
 use table::Refusal;
 use table::Verdict;
 ghost use mathlib.Core.Path.{_≡_};
@@ -23,7 +23,7 @@ fn seconds_in(image: &mut [u8], seconds: u32)
         (third % 256) as u8,
         (fourth % 256) as u8,
     ];
-    write(image, 1, &bytes);
+    run(image, 0, &bytes);
 }
 
 // Whole steps of 1/256 second. A whole second, 256 steps, is 0.

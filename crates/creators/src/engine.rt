@@ -5,7 +5,6 @@ use table::Verdict;
 ghost use mathlib.Core.Path.{_≡_};
 ghost use Prim.Native.Nat.{_+_, _<_, _≤_};
 ghost use lib.ListN.{length};
-ghost use lib.Seq.{paste};
 ghost use Rattle.bits.specs.Bits.{bitOf};
 ghost use Rattle.table.specs.Refusals.{numberOf};
 ghost use Rattle.table.specs.Told.{toldVerdict};
@@ -46,11 +45,12 @@ pub(crate) fn flag(image: &mut [u8], byte: usize, k: u8, on: bool)
     image[at] = bits::put_flag(image[at], k, on);
 }
 
-// Bytes, one after another, from one place of the image on.
-pub(crate) fn write(image: &mut [u8], at: usize, s: &[u8])
-    requires { ⌜ at + length (now s) ≤ length (now image) ⌝ }
-    ensures { λ _. ⌜ now (image .exit) ≡ paste (now (image .entry)) at (now (s .entry)) (length (now (s .entry))) ⌝ }
+// Whole payload bytes, one after another.
+pub(crate) fn run(image: &mut [u8], byte: usize, s: &[u8])
+    requires { ⌜ 1 + byte + length (now s) ≤ length (now image) ⌝ }
+    ensures { λ _. ⌜ now (image .exit) ≡ putBytes (run byte (length (now (s .entry)))) (now (image .entry)) (now (s .entry)) ⌝ }
 {
+    let at = 1 + byte;
     let mut i = 0;
     while i < s.len() {
         image[at + i] = s[i];
@@ -58,12 +58,10 @@ pub(crate) fn write(image: &mut [u8], at: usize, s: &[u8])
     }
 }
 
-// A frequency, from one payload byte on.
 pub(crate) fn frequency_at(image: &mut [u8], byte: usize, frequency: Frequency)
     requires { ⌜ 3 + byte < length (now image) ⌝ }
     ensures { λ _. ⌜ now (image .exit) ≡ putBytes (run byte 3) (now (image .entry)) (bytesOf frequency) ⌝ }
 {
     let bytes = frequency.as_ref();
-    let at = 1 + byte;
-    write(image, at, &bytes);
+    run(image, byte, &bytes);
 }

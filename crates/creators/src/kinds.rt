@@ -195,6 +195,13 @@ impl UplinkMacCommandCreator {
         uplink(UplinkKind::DeviceTimeReq, &data)
     }
 
+    pub fn kind(self) -> UplinkKind
+        ensures { λ r. ⌜ r ≡ self .kind ⌝ }
+    {
+        let kind = self.kind;
+        kind
+    }
+
     // The CID of the kind, whatever the image's first byte.
     pub fn cid(self) -> u8
         ensures { λ r. ⌜ r ≡ uplinkCommand (self .kind) .cid ⌝ }
@@ -352,6 +359,13 @@ impl DownlinkMacCommandCreator {
     {
         let data = creator.data;
         downlink(DownlinkKind::DeviceTimeAns, &data)
+    }
+
+    pub fn kind(self) -> DownlinkKind
+        ensures { λ r. ⌜ r ≡ self .kind ⌝ }
+    {
+        let kind = self.kind;
+        kind
     }
 
     // The CID of the kind, whatever the image's first byte.

@@ -1,7 +1,7 @@
 use crate::engine::flag;
 use crate::engine::nibble;
 use crate::engine::octet;
-use crate::engine::write;
+use crate::engine::run;
 use fields::ChannelMask2;
 use fields::Redundancy;
 use table::Refusal;
@@ -20,7 +20,7 @@ fn channel_mask_in(image: &mut [u8], channel_mask: ChannelMask2)
     ensures { λ _. ⌜ now (image .exit) ≡ putBytes LinkADRReq·channelMask (now (image .entry)) («channel_mask» .0) ⌝ }
 {
     let bytes = channel_mask.as_ref();
-    write(image, 2, &bytes);
+    run(image, 1, &bytes);
 }
 
 fn redundancy_in(image: &mut [u8], redundancy: Redundancy)

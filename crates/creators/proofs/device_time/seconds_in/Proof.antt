@@ -1,5 +1,4 @@
 -- `seconds_in` meets its contract. Assumes nothing.
-use Rattle.creators.specs.Image.{putBytes}
 use Rattle.creators.specs.Setters.{secondsAt, lowBytes}
 use borrow.Author.Needs.{needs}
 use Rattle.creators.proofs.device_time.seconds_in.Statement.{statement}
@@ -17,18 +16,18 @@ cast-t12 c = search needs
 cast-t14 : tie.Need-cast-t14
 cast-t14 c = search needs
 
-slice-aggregate-write : tie.Need-slice-aggregate-write
-slice-aggregate-write c = search needs
+slice-aggregate-run : tie.Need-slice-aggregate-run
+slice-aggregate-run c = search needs
 
-write-requires : tie.Need-write-requires
-write-requires c κs = search needs
+run-requires : tie.Need-run-requires
+run-requires c κs = search needs
 
 same-length : tie.Need-same-length
 same-length c = search needs
 
 returns : tie.Need-returns
-unfolding putBytes secondsAt lowBytes
-returns c = c .before .before .write .ensures
+unfolding secondsAt lowBytes
+returns c = c .before .before .run .ensures
 
 pub seconds-in-spec : {M : Type 1} → statement M
 seconds-in-spec =
@@ -38,7 +37,7 @@ seconds-in-spec =
     cast-t10
     cast-t12
     cast-t14
-    slice-aggregate-write
-    write-requires
+    slice-aggregate-run
+    run-requires
     same-length
     returns)

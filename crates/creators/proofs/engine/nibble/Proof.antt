@@ -1,9 +1,5 @@
 -- `nibble` meets its contract. Assumes nothing.
-use mathlib.Core.Path.{ap, _∙_}
-use mathlib.Core.List.{List}
-use Prim.Native.Nat.{ℕ}
 use native.Mathlib.Omega.{arith}
-use Rattle.table.specs.Answers.{Consent, accepted}
 use Rattle.table.specs.Refusals.{numberOf}
 use Rattle.fields.specs.Places.{place}
 use Rattle.creators.proofs.Written.{put-held, checked-held, checked-refused}
