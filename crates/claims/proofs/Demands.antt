@@ -16,9 +16,10 @@ use Rattle.creators.specs.Setters.{isMargin, sixBits, marginAt, nanoSecondsAt}
 use Rattle.creators.proofs.ReadBack.{refused-keeps}
 use Rattle.walk.specs.Walk.{encode}
 use Rattle.walk.proofs.Ownership as Ownership
-use Rattle.build.specs.Records.{Item, cmdsOf, over}
+use Rattle.build.specs.Records.{cmdsOf, slotsOf, over}
 use Rattle.build.specs.Build.{Built, total, totalOf, fill, buildOf}
 use Rattle.build.specs.Build as Build
+use Rattle.build.proofs.Slots.{slots-full}
 use Rattle.build.proofs.ThereAndBack as ThereAndBack
 use Rattle.claims.specs.Demands.{RefusalsKeep, OneOwner, Demands}
 use Rattle.claims.proofs.Examples.{examples-hold}
@@ -77,6 +78,7 @@ one-owner rules =
       one = Ownership.one-division L;
       d = ThereAndBack.build-then-walk L;
       e = ThereAndBack.equal-bytes-equal-lists L;
+      accepted = λ records out. ThereAndBack.accepts L (slotsOf records) out (slots-full rules records);
     }
 
 pub demands : Demands

@@ -3,6 +3,7 @@
 use Prim.Native.Nat.{ℕ, _≤_}
 use mathlib.Core.Bool.{Bool}
 use mathlib.Core.List.{List}
+use mathlib.Core.Logic.{_↔_}
 use mathlib.Core.Path.{_≡_}
 use lib.IntN.{ℤ}
 use lib.ListN.{length}
@@ -13,10 +14,10 @@ use Rattle.fields.specs.Mask.{firstOf, setBank, setChannel}
 use Rattle.fields.specs.Places.{Place}
 use Rattle.creators.specs.Image.{checkedAt}
 use Rattle.creators.specs.Setters.{marginAt, nanoSecondsAt}
-use Rattle.walk.specs.Walk.{encode, walkOf}
-use Rattle.walk.specs.Ownership.{EveryByteOwned, StopsOnlyThere, OneDivision, FrontsAreBeginnings, CountFits}
-use Rattle.build.specs.Records.{Item, cmdsOf}
-use Rattle.build.specs.Build.{Built, buildOf}
+use Rattle.walk.specs.Walk.{encode}
+use Rattle.walk.specs.Ownership.{EveryByteOwned, StopsOnlyThere, OneDivision, FrontsAreBeginnings}
+use Rattle.build.specs.Records.{Item, cmdsOf, slotsOf}
+use Rattle.build.specs.Build.{buildOf}
 use Rattle.build.specs.Build as Build
 use Rattle.build.specs.ThereAndBack.{Commands, BuildThenWalk, EqualBytesEqualLists}
 use Rattle.claims.specs.Examples.{ExamplesHold}
@@ -53,6 +54,10 @@ pub record OneOwner (rules : Rules) : Type 0 where
   pub d : (xs : List Item) → BuildThenWalk (lengthOf rules) xs
   -- e. "two such lists of the same direction with equal bytes are equal"
   pub e : EqualBytesEqualLists (lengthOf rules)
+  -- packed records are accepted exactly where they are such a list
+  pub accepted : (records out : List ℕ)
+      → ((n : ℕ) × (buildOf (lengthOf rules) (slotsOf records) out .0 ≡ Build.total n))
+      ↔ ((length (slotsOf records) ≤ 4096) × Commands (lengthOf rules) (slotsOf records) × (length (encode (cmdsOf (slotsOf records))) ≤ length out))
 
 -- the demands, together
 pub record Demands : Type 0 where
