@@ -1,0 +1,10 @@
+pub mod Counting
+pub mod Determined
+pub mod Fitting
+pub mod Fixing
+pub mod Iteration
+pub mod Lending
+pub mod Packing
+pub mod RecordSize
+pub mod Values
+pub mod Walking

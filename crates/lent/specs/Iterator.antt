@@ -1,0 +1,41 @@
+-- An iterator over a stream (document 01, "What must change shape"): the stream and an index in one struct, moved by its steps.
+use Prim.Native.Nat.{ℕ, zero, suc}
+use mathlib.Core.List.{List}
+use denote.Ref.{RefT}
+use Rattle.table.specs.Answers.{Answer, given, refused}
+use Rattle.table.specs.Table.{lengthOf}
+use Rattle.table.specs.declared.rules.Rules.{Rules}
+use Rattle.walk.specs.Walk.{Rule}
+use Rattle.walk.specs.Step.{Found, ended, command, stopped, Heading, stepAt}
+use Rattle.lent.specs.declared.iterator.MacCommandIterator.{MacCommandIterator}
+
+-- the offset of the next step: behind a command, and the same where there is none
+abbrev pub movedTo : Answer (Found Heading) → ℕ → ℕ
+movedTo (given (command h next)) at = next
+movedTo (given ended) at = at
+movedTo (given (stopped n o)) at = at
+movedTo (refused n) at = at
+
+abbrev pub fresh : RefT (List ℕ) → Rules → MacCommandIterator
+fresh s rules = record { «data» = s; index = 0; rules = rules }
+
+-- the same iterator at another index
+abbrev pub atIndex : MacCommandIterator → ℕ → MacCommandIterator
+atIndex it at = record { «data» = it .«data»; index = at; rules = it .rules }
+
+-- the step at its index
+abbrev pub stepOf : MacCommandIterator → Answer (Found Heading)
+stepOf it = stepAt (lengthOf (it .rules)) (it .«data» .now) (it .index)
+
+-- one call of `next`: that step, and the iterator moved by it
+abbrev pub nexted : MacCommandIterator → Answer (Found Heading) × MacCommandIterator
+nexted it = (stepOf it, atIndex it (movedTo (stepOf it) (it .index)))
+
+-- the index of a fresh iterator after n calls of `next`
+unfoldable pub indexAfter : Rule → List ℕ → ℕ → ℕ
+indexAfter L s zero = 0
+indexAfter L s (suc n) = movedTo (stepAt L s (indexAfter L s n)) (indexAfter L s n)
+
+-- what the call after n others answers
+abbrev pub nthAnswer : Rule → List ℕ → ℕ → Answer (Found Heading)
+nthAnswer L s n = stepAt L s (indexAfter L s n)

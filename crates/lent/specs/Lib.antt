@@ -1,0 +1,4 @@
+pub mod Iteration
+pub mod Iterator
+pub mod Packing
+pub mod Records
