@@ -1,26 +1,24 @@
 -- The records of a list judged one by one, and the room for their total. Assumes nothing.
 use Prim.Native.Nat.{ℕ, suc, _+_, _*_, _-_, _<_, _≤_}
 use mathlib.Core.Path.{_≡_, refl, sym, ap, _∙_, subst}
-use mathlib.Core.Bool.{Bool, true, false, cond}
-use mathlib.Core.List.{List, [], _∷_, _++_, map, append-nil}
+use mathlib.Core.Bool.{Bool, cond}
+use mathlib.Core.List.{List, [], _∷_, _++_, append-nil}
 use native.Mathlib.Decide.{decLe}
-use native.Mathlib.Numerals.{add-one}
 use native.Mathlib.Omega.{arith}
-use lib.Dec.{leb}
 use lib.ListN.{length, getD, drop, drop-of-length-le, length-map, List·getD-map}
-use borrow.Author.Tests.{le-leb, lt-leb, leb-true}
+use borrow.Author.Tests.{le-leb, lt-leb}
 use Rattle.table.specs.Answers.{Answer, given}
 use Rattle.table.specs.Answers as Answers
 use Rattle.table.specs.Table.{lengthOf}
 use Rattle.table.specs.declared.rules.Rules.{Rules}
-use Rattle.walk.specs.Walk.{Rule, Cmd, encode}
-use Rattle.build.specs.Records.{Rec, Item, whole, judged, judgedItem, heldBy, noRecord, cmdOf, cmdsOf, over}
-use Rattle.build.specs.Build.{Built, total, refusedAt, refused, sumFrom, totalOf, fill, buildOf}
+use Rattle.walk.specs.Walk.{Rule}
+use Rattle.build.specs.Records.{Rec, Item, whole, judged, judgedItem, heldBy, noRecord}
+use Rattle.build.specs.Build.{Built, total, refused, sumFrom, totalOf}
 use Rattle.build.specs.declared.record.Record.{Record}
 use Rattle.build.proofs.Judging.{at-most-six}
-use Rattle.build.proofs.Slots.{record-at, cmds-of-whole}
+use Rattle.build.proofs.Slots.{record-at}
 use Rattle.build.proofs.Sums.{sum-more, sum-refused, sum-end, too-many, not-too-many}
-use Rattle.lent.specs.Records.{recsOf, itemsOf, Count, begun, tallied, inRoom, accepted}
+use Rattle.lent.specs.Records.{recsOf, itemsOf, Count, begun, tallied, inRoom}
 
 -- ---- room for the total
 

@@ -1,6 +1,6 @@
 -- Any two outcomes that a public function's contract admits are equal: the result, and what stands behind a `&mut` at exit. Of a slice that is handed
 -- back, or held by an iterator, that is all of it. Assumes nothing.
-use mathlib.Core.Path.{_≡_, sym, ap, ap₂, _∙_}
+use mathlib.Core.Path.{sym, ap, ap₂, _∙_}
 use denote.Ref.{now}
 use Rattle.walk.proofs.Told.{step-tells}
 use Rattle.build.proofs.Told.{build-tells}

@@ -1,15 +1,15 @@
 -- What a build writes, where its total has room, and that it has. Assumes nothing.
-use Prim.Native.Nat.{ℕ, zero, suc, _+_, _<_, _≤_}
+use Prim.Native.Nat.{ℕ, zero, suc, _+_, _≤_}
 use mathlib.Core.Path.{_≡_, refl, sym, ap, _∙_}
 use mathlib.Core.Bool.{Bool, true, false}
-use mathlib.Core.List.{List, [], _∷_, _++_, map, append-nil}
+use mathlib.Core.List.{List, [], _∷_, map, append-nil}
 use native.Mathlib.Decide.{decLe}
 use native.Mathlib.Omega.{arith}
 use lib.ListN.{length, take, length-append}
 use Rattle.table.specs.Answers.{Answer, given}
 use Rattle.table.specs.Answers as Answers
 use Rattle.walk.specs.Walk.{Rule, Cmd, encode}
-use Rattle.build.specs.Records.{Rec, Item, whole, part, judged, cmdOf, cmdsOf, over}
+use Rattle.build.specs.Records.{Item, whole, part, judged, cmdOf, cmdsOf, over}
 use Rattle.build.specs.Build.{Built, total, refusedAt, refused, next, sumFrom, totalOf, fill, buildOf}
 use Rattle.build.specs.declared.record.Record.{Record}
 use Rattle.build.proofs.Judging.{judged-given}

@@ -17,7 +17,7 @@ use Rattle.walk.specs.Ownership.{offsetOf, Steps, finds, hands}
 use Rattle.walk.proofs.Ownership.{step-and-walk-agree, count-fits}
 use Rattle.walk.proofs.Steps.{found-command}
 use Rattle.lent.specs.Iterator.{movedTo, indexAfter, nthAnswer}
-use Rattle.lent.specs.Iteration.{Hands, HandsOutTheWalk}
+use Rattle.lent.specs.Iteration.{HandsOutTheWalk}
 
 abbrev behindFirst : List Placed → List Placed
 behindFirst [] = []

@@ -2,14 +2,13 @@
 use Prim.Native.Nat.{ℕ, zero, suc, _+_, _*_, _-_, _/_, _%_, _<_, _≤_}
 use mathlib.Core.Bool.{Bool, true, false, cond}
 use mathlib.Core.List.{List, [], _∷_, _++_, map, append-nil}
-use mathlib.Core.Logic.{⊎-elim}
 use mathlib.Core.Option.{Option, none, some}
 use mathlib.Core.Path.{_≡_, refl, sym, ap, _∙_, subst}
 use native.Mathlib.Decide.{decLt}
 use native.Mathlib.Nat.{add-zero}
 use native.Mathlib.Omega.{arith}
-use lib.Dec.{eqb, ltb, leb}
-use lib.ListN.{length, getD, take, drop, length-map, length-append, List·getD-append}
+use lib.Dec.{leb}
+use lib.ListN.{length, getD, take, drop, length-map, List·getD-append}
 use lib.Seq.{getD-append-add, getD-take, getD-drop, length-take-le}
 use borrow.Author.Tests.{lt-ltb, le-ltb, eq-eqb, ne-eqb}
 use Rattle.table.specs.Answers.{Answer, given}
@@ -19,13 +18,13 @@ use Rattle.table.specs.declared.rules.Rules.{Rules}
 use Rattle.table.proofs.Lengths.{at-most-five}
 use Rattle.fields.specs.Lists.{tabulate}
 use Rattle.walk.specs.Walk.{Rule, encode}
-use Rattle.build.specs.Records.{Rec, Item, whole, part, measured, judged, heldBy, noRecord, cmdsOf, lenByte, slotAt, slotsOf, wholeSlots, over, packedAt}
+use Rattle.build.specs.Records.{Rec, Item, whole, part, measured, judged, heldBy, noRecord, cmdsOf, lenByte, slotAt, slotsOf, wholeSlots, over}
 use Rattle.build.specs.Build.{Built, total, refusedAt, refused, next, sumFrom, totalOf, fill, buildOf}
 use Rattle.build.specs.declared.record.Record.{Record}
 use Rattle.build.proofs.Judging.{judged-given}
 use Rattle.build.proofs.Writes.{packed-in}
-use Rattle.lent.specs.Records.{recsOf, itemsOf}
-use Rattle.lent.specs.Packing.{inSlot, Packed, SameAnswers, AnswersAsPacked, MakesSlot, PackMakesSlots}
+use Rattle.lent.specs.Records.{recsOf}
+use Rattle.lent.specs.Packing.{inSlot, Packed, AnswersAsPacked, PackMakesSlots}
 
 -- a length that has room in a slot stays
 short-stays : (r : Rec) → r .len < 256 → inSlot r ≡ r

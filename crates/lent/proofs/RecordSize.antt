@@ -9,4 +9,4 @@ bytes = 24
 
 -- an element's offset fits, since the bytes of all elements do
 pub offset-fits : (n i : ℕ) → Room T.the-row n → i < n → i * bytes < 2 ^ 64
-offset-fits n i room l = let h : n * 24 < 2 ^ 63 = room .1 in omega arith
+offset-fits n i room l = let h : n * bytes < 2 ^ 63 = room .1 in omega arith

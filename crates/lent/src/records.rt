@@ -5,7 +5,7 @@ use table::Refusal;
 use table::Rules;
 ghost use mathlib.Core.Path.{_≡_};
 ghost use mathlib.Core.List.{map};
-ghost use Prim.Native.Nat.{_+_, _*_, _<_, _≤_};
+ghost use Prim.Native.Nat.{_*_, _<_, _≤_};
 ghost use lib.ListN.{length, getD};
 ghost use Rattle.table.specs.Table.{lengthOf};
 ghost use Rattle.walk.specs.Walk.{encode};

@@ -1,7 +1,6 @@
 -- `sent_down` meets its contract. Assumes nothing.
 use mathlib.Core.Path.{ap}
 use Rattle.table.specs.declared.rules.Direction.{Direction}
-use Rattle.table.specs.declared.rules.Rules.{Rules}
 use borrow.Author.Needs.{needs}
 use Rattle.lent.proofs.iterator.sent_down.Statement.{statement}
 use Rattle.lent.proofs.iterator.sent_down.Tie as tie

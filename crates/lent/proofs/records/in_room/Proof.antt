@@ -1,6 +1,5 @@
 -- `in_room` meets its contract. Assumes nothing.
 use mathlib.Core.Path.{ap}
-use native.Mathlib.Omega.{arith}
 use Rattle.build.specs.Told.{toldBuild}
 use Rattle.lent.proofs.Counting.{enough, too-short}
 use borrow.Author.Needs.{needs}

@@ -40,7 +40,7 @@ use Rattle.build.specs.declared.record.Record.{Record}
 use Rattle.build.proofs.record.Record as T
 use Rattle.build.proofs.record.Record.Laws as T′
 use Rattle.lent.proofs.RecordSize.{bytes, offset-fits}
-use Rattle.lent.proofs.Walking.{leaves, none-left, vacant, holding}
+use Rattle.lent.proofs.Walking.{leaves, none-left, holding}
 use Rattle.lent.proofs.records.record_at.Key.{name as #record-at}
 use Rattle.lent.proofs.records.record_at as record-at
 use Rattle.lent.proofs.records.record_at.Statement as stated

@@ -3,7 +3,7 @@
 -- knows of the callees is that each meets its contract. Assumes nothing.
 use mathlib.Core.Path.{_≡_, refl, sym, ap, _∙_, subst}
 use mathlib.Core.Bool.{Bool, true, false}
-use Prim.Native.Nat.{ℕ, suc, _+_, _*_, _<_, _≤_, _^_}
+use Prim.Native.Nat.{ℕ, _*_, _<_, _≤_, _^_}
 use native.Mathlib.Omega.{arith}
 use mathlib.Core.List.{List, [], _∷_}
 use mathlib.Core.WellFounded.{WellFounded, InvImage·wf}
@@ -57,7 +57,7 @@ use Rattle.build.proofs.packed.BuildAnswer.Laws as B′
 use Rattle.lent.specs.Records.{Count, itemsOf, toldTally, begun, tallied}
 use Rattle.lent.specs.declared.records.Tally.{Tally}
 use Rattle.lent.proofs.Counting.{Counting, counting-begun, counted-more, fewer, items-length}
-use Rattle.lent.proofs.Values.{rulesVal, answerVal, gives-usize, gives-rules, gives-answer, usize-typed, rules-typed, record-typed, answer-typed}
+use Rattle.lent.proofs.Values.{rulesVal, answerVal, gives-usize, gives-rules, gives-answer, rules-typed, record-typed, answer-typed}
 use Rattle.lent.proofs.Walking.{Met, asks, asks-last, leaves, none-left, vacant, holding}
 use Rattle.lent.proofs.records.Tally as U
 use Rattle.lent.proofs.records.Tally.Laws as U′

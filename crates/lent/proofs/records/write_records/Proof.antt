@@ -31,9 +31,8 @@ use types.Run.{look, init, store, forget, stop, hop, fld, from, load, lit, unit-
 use types.Tokens.{lft-new, lft-end}
 use sound.WpLaws.{FmC, fmOf, WpFn-mono}
 use denote.RattleType.{owns}
-use denote.Laws.{Is}
 use denote.Memory.{pointee}
-use denote.Builtin.{u8, usize}
+use denote.Builtin.{u8}
 use denote.Ref.{RefT}
 use denote.Signature.{plain}
 use denote.Slice.{sliceTy, sliceVal, ShrSlice, MutSlice, Room, slice-vals, shr-slice-tells, shr-slice-copy, mut-slice-tells}
@@ -45,7 +44,7 @@ use denote.Triple.Table.{entered, cited}
 use denote.Triple.Walked.{says, needs, Stays, stay-slice, stay-none-slice, walkOf, goes-slice, goes-none-slice, Walks, ends-at, walked, walk-meets}
 use denote.Exit.{yes}
 use Rattle.walk.specs.Walk.{encode}
-use Rattle.build.specs.Records.{Rec, heldBy, noRecord, cmdOf, over, writtenAt}
+use Rattle.build.specs.Records.{heldBy, noRecord, cmdOf, over, writtenAt}
 use Rattle.build.specs.declared.record.Record.{Record}
 use Rattle.build.proofs.Laying.{Laid, laid-none, laid-length, laid-more, laid-all}
 use Rattle.build.proofs.record.Record as T

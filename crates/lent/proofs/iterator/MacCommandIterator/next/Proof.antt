@@ -37,12 +37,11 @@ use denote.Struct.Rest.{all-own, ownAt, rest, own-open, own-out, own-put}
 use denote.Struct.Steps.{spelt}
 use denote.Struct.Values.{Values}
 use denote.Triple.Statement.{Triple}
-use denote.Triple.Entry.{Vals, onEntry}
+use denote.Triple.Entry.{onEntry}
 use denote.Triple.Spec.{Meets, tripleOf}
 use denote.Triple.Table.{entered, cited}
 use denote.Triple.Walked.{says, Stays, stay-ref, walkOf, goes-ref, Walks, ends-at, walked, walk-meets}
 use Rattle.table.specs.Answers.{Answer}
-use Rattle.table.proofs.rules.Rules as R
 use Rattle.walk.specs.Step.{Found, Heading}
 use Rattle.walk.specs.Told.{toldStep}
 use Rattle.walk.specs.declared.step.Step.{Step}
