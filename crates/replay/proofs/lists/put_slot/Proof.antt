@@ -1,0 +1,76 @@
+-- `put_slot` is safe and ends. Assumes nothing.
+use Prim.Native.Nat.{_≤_, _-_}
+use lib.ListN.{length}
+use mathlib.Core.Path.{_≡_}
+use borrow.Author.Needs.{needs}
+use Rattle.replay.proofs.lists.put_slot.Statement.{statement}
+use Rattle.replay.proofs.lists.put_slot.Tie as tie
+
+abbrev Inv-loop : tie.InvT-loop
+Inv-loop slot records₀ at i₀ records i = (i ≤ 8) × (length records ≡ length records₀)
+
+abbrev μ-loop : tie.MeasureT-loop
+μ-loop slot records₀ at i₀ records i = 8 - i
+
+returns : tie.Need-returns Inv-loop μ-loop
+returns c = search needs
+
+returns-2 : tie.Need-returns-2 Inv-loop μ-loop
+returns-2 c = search needs
+
+sub-if3 : tie.Need-sub-if3 Inv-loop μ-loop
+sub-if3 c = search needs
+
+returns-3 : tie.Need-returns-3 Inv-loop μ-loop
+returns-3 c = search needs
+
+loop-holds : tie.Need-loop-holds Inv-loop μ-loop
+loop-holds c = search needs
+
+shared-slice-read-records : tie.Need-shared-slice-read-records Inv-loop μ-loop
+shared-slice-read-records c = search needs
+
+add-records : tie.Need-add-records Inv-loop μ-loop
+add-records c = search needs
+
+slice-write-records : tie.Need-slice-write-records Inv-loop μ-loop
+slice-write-records c = search needs
+
+add-i : tie.Need-add-i Inv-loop μ-loop
+add-i c = search needs
+
+loop-less : tie.Need-loop-less Inv-loop μ-loop
+loop-less c = search needs
+
+loop-again : tie.Need-loop-again Inv-loop μ-loop
+loop-again c = search needs
+
+add-result : tie.Need-add-result Inv-loop μ-loop
+add-result c = search needs
+
+same-length : tie.Need-same-length Inv-loop μ-loop
+same-length c = search needs
+
+returns-4 : tie.Need-returns-4 Inv-loop μ-loop
+returns-4 c = search needs
+
+pub put-slot-spec : {M : Type 1} → statement M
+put-slot-spec =
+    tie.close
+    (tie.spec
+    Inv-loop
+    μ-loop
+    returns
+    returns-2
+    sub-if3
+    returns-3
+    loop-holds
+    shared-slice-read-records
+    add-records
+    slice-write-records
+    add-i
+    loop-less
+    loop-again
+    add-result
+    same-length
+    returns-4)

@@ -1,0 +1,34 @@
+-- `up_steps` is safe and ends. Assumes nothing.
+use Prim.Native.Nat.{_≤_, _-_}
+use borrow.Author.Needs.{needs}
+use Rattle.replay.proofs.streams.up_steps.Statement.{statement}
+use Rattle.replay.proofs.streams.up_steps.Tie as tie
+
+abbrev Inv-loop : tie.InvT-loop
+Inv-loop stream count told wanted reached₀ i₀ reached i = i ≤ count
+
+abbrev μ-loop : tie.MeasureT-loop
+μ-loop stream count told wanted reached₀ i₀ reached i = count - i
+
+loop-holds : tie.Need-loop-holds Inv-loop μ-loop
+loop-holds c = search needs
+
+up-step-requires : tie.Need-up-step-requires Inv-loop μ-loop
+up-step-requires c κs = search needs
+
+add-i : tie.Need-add-i Inv-loop μ-loop
+add-i c = search needs
+
+loop-less : tie.Need-loop-less Inv-loop μ-loop
+loop-less c = search needs
+
+loop-again : tie.Need-loop-again Inv-loop μ-loop
+loop-again c = search needs
+
+returns : tie.Need-returns Inv-loop μ-loop
+returns c = search needs
+
+pub up-steps-spec : {M : Type 1} → statement M
+up-steps-spec =
+    tie.close
+    (tie.spec Inv-loop μ-loop loop-holds up-step-requires add-i loop-less loop-again returns)
