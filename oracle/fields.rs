@@ -49,8 +49,9 @@ pub fn read_frequency(answer: &mut Vec<u8>, f: &Frequency) {
 /// Input: the bytes. Answer: the verdict of `new`, where None is refusal 3; where it is accepted, the frequency, and again as
 /// `from` an array makes it.
 pub fn frequency(input: &[u8]) -> Judged {
-    let Some(f) = Frequency::new(input) else {
-        return Case::agreed(vec![3]);
+    let f = match Frequency::new(input) {
+        Some(f) => f,
+        None => return Case::agreed(vec![3]),
     };
     let mut answer = vec![0];
     read_frequency(&mut answer, &f);

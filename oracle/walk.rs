@@ -57,14 +57,15 @@ where
     let mut list = Vec::new();
     loop {
         let at = commands.index;
-        let Some(found) = caught(|| commands.next()) else {
-            return stopped_by_panic(direction, stream, at, count, &list);
-        };
-        let Some(command) = found else {
-            if commands.index != at || commands.next().is_some() {
-                return Err("the iterator moves on after None".to_string());
+        let command = match caught(|| commands.next()) {
+            Some(Some(command)) => command,
+            Some(None) => {
+                if commands.index != at || commands.next().is_some() {
+                    return Err("the iterator moves on after None".to_string());
+                }
+                return ended(direction, stream, at, count, &list);
             }
-            return ended(direction, stream, at, count, &list);
+            None => return stopped_by_panic(direction, stream, at, count, &list),
         };
         if command.payload_bytes() != command.bytes() || command.payload_len() != command.len() {
             return Err("a command's record is not its bytes".to_string());
