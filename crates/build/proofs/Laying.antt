@@ -1,15 +1,15 @@
 -- Records written one behind another from the front of lent memory. Assumes nothing.
-use Prim.Native.Nat.{ℕ, zero, suc, _+_, _<_, _≤_}
+use Prim.Native.Nat.{ℕ, zero, suc, _+_, _-_, _<_, _≤_}
 use mathlib.Core.Path.{_≡_, refl, sym, ap, _∙_, subst}
 use mathlib.Core.List.{List, [], _∷_, _++_, map, map-append, append-nil, append-assoc}
 use native.Mathlib.Nat.{zero-add, add-assoc}
 use native.Mathlib.Numerals.{add-one}
 use native.Mathlib.Omega.{arith}
 use lib.ListN.{length, getD, take, drop, length-append, length-drop, take-append-drop}
-use lib.Seq.{take-suc, take-length, take-append-seam, drop-append-add, drop-drop}
+use lib.Seq.{take-suc, take-length, take-append-seam, length-take-le, drop-append-add, drop-drop}
 use Rattle.walk.specs.Walk.{Cmd, encode}
-use Rattle.build.specs.Records.{Rec, cmdOf, bytesOf, over, writtenAt}
-use Rattle.build.proofs.Writes.{room}
+use Rattle.build.specs.Records.{Rec, cmdOf, bytesOf, over, writtenAt, LaidAt}
+use Rattle.build.proofs.Writes.{exactly-laid}
 
 -- the bytes of the first i records
 abbrev pub front : List Rec → ℕ → List ℕ
@@ -35,15 +35,43 @@ over-length out b h =
     ∙ ap (λ (k : ℕ). length b + k) (length-drop (length b) out)
     ∙ omega arith
 
--- bytes over the front, and others behind them
-over-over : (out f b : List ℕ) → over (over out 0 f) (length f) b ≡ over out 0 (f ++ b)
-over-over out f b =
-    ap (λ (o : List ℕ). over o (length f) b) (over-front out f)
-    ∙ ap (λ (x : List ℕ). x ++ (b ++ drop (length f + length b) (f ++ drop (length f) out))) (take-append-seam f (drop (length f) out))
-    ∙ ap (λ (x : List ℕ). f ++ (b ++ x))
-    (drop-append-add f (drop (length f) out) (length b) ∙ drop-drop (length b) (length f) out ∙ ap (λ (k : ℕ). drop k out) (sym (length-append f b)))
-    ∙ sym (append-assoc f b (drop (length (f ++ b)) out))
-    ∙ sym (over-front out (f ++ b))
+-- ---- bytes over memory that has room for them: what is before their end, and what is behind it
+
+module _ (o : List ℕ) (at : ℕ) (b x : List ℕ) (h : at + length (b ++ x) ≤ length o) where
+  parts : over o at (b ++ x) ≡ (take at o ++ b) ++ (x ++ drop (at + length (b ++ x)) o)
+  parts =
+      ap (λ (l : List ℕ). take at o ++ l) (append-assoc b x (drop (at + length (b ++ x)) o))
+      ∙ sym (append-assoc (take at o) b (x ++ drop (at + length (b ++ x)) o))
+
+  ends : length (take at o ++ b) ≡ at + length b
+  ends = length-append (take at o) b ∙ ap (λ (k : ℕ). k + length b) (length-take-le at o (omega arith))
+
+  over-take : take (at + length b) (over o at (b ++ x)) ≡ take at o ++ b
+  over-take =
+      ap (λ (k : ℕ). take k (over o at (b ++ x))) (sym ends)
+      ∙ ap (take (length (take at o ++ b))) parts
+      ∙ take-append-seam (take at o ++ b) (x ++ drop (at + length (b ++ x)) o)
+
+-- from an offset that is so far behind them
+module _ (o : List ℕ) (at : ℕ) (w : List ℕ) (h : at + length w ≤ length o) where
+  whole : over o at w ≡ (take at o ++ w) ++ drop (at + length w) o
+  whole = sym (append-assoc (take at o) w (drop (at + length w) o))
+
+  ends-whole : length (take at o ++ w) ≡ at + length w
+  ends-whole = length-append (take at o) w ∙ ap (λ (k : ℕ). k + length w) (length-take-le at o (omega arith))
+
+  over-drop : (k : ℕ) → drop (at + length w + k) (over o at w) ≡ drop (at + length w + k) o
+  over-drop k =
+      ap (λ (n : ℕ). drop (n + k) (over o at w)) (sym ends-whole)
+      ∙ ap (drop (length (take at o ++ w) + k)) whole
+      ∙ drop-append-add (take at o ++ w) (drop (at + length w) o) k
+      ∙ drop-drop k (at + length w) o
+
+  over-keeps-length : length (over o at w) ≡ length o
+  over-keeps-length =
+      ap length whole
+      ∙ length-append (take at o ++ w) (drop (at + length w) o)
+      ∙ omega (arith, ends-whole, length-drop (at + length w) o)
 
 module _ (rs : List Rec) where
   front-more : (i : ℕ) (d : Rec) → i < length rs → front rs (suc i) ≡ front rs i ++ bytesOf (getD rs i d)
@@ -61,39 +89,66 @@ module _ (rs : List Rec) where
       ∙ encode-append (map cmdOf (take i rs)) (map cmdOf (drop i rs)) in
       omega (arith, ap length e, length-append (front rs i) (encode (map cmdOf (drop i rs))))
 
-  -- i records stand at the front, and the next goes to offset `at`
+  -- i records stand at the front, and the next goes to offset `at`. From there to the end of all records memory may hold anything
   pub record Laid (out : List ℕ) (i at : ℕ) (o : List ℕ) : Type 0 where
     pub behind : at ≡ length (front rs i)
-    pub memory : o ≡ over out 0 (front rs i)
+    pub before : take at o ≡ front rs i
+    pub rest : drop (length (all rs)) o ≡ drop (length (all rs)) out
+    pub long : length o ≡ length out
 
   module _ (out : List ℕ) (fits : length (all rs) ≤ length out) where
     pub laid-none : Laid out 0 0 out
-    laid-none = record { behind = refl; memory = refl }
+    laid-none = record { behind = refl; before = refl; rest = refl; long = refl }
 
     pub laid-length : {i at : ℕ} {o : List ℕ} → Laid out i at o → length o ≡ length out
-    laid-length {i} {at} {o} l = let w = front-within i in ap length (l .memory) ∙ over-length out (front rs i) (omega arith)
+    laid-length l = l .long
+
+    module _ {i at : ℕ} {o : List ℕ} (d : Rec) (h : i < length rs) (l : Laid out i at o) where
+      ends-next : at + length (bytesOf (getD rs i d)) ≡ length (front rs (suc i))
+      ends-next =
+          omega (arith, l .behind, ap length (front-more i d h), length-append (front rs i) (bytesOf (getD rs i d)))
+
+      -- the next record fits
+      pub laid-room : at + length (bytesOf (getD rs i d)) ≤ length (all rs)
+      laid-room = let w = front-within (suc i) in let e = ends-next in omega arith
+
+      -- and is laid behind the others, with a surplus that ends where all records end, or before
+      pub laid-next : (next : ℕ) (o' : List ℕ) → LaidAt o at (length (all rs)) (getD rs i d) next o' → Laid out (i + 1) next o'
+      laid-next next o' n =
+          let r : Rec = getD rs i d in
+          let x : List ℕ = n .surplus in
+          let w : List ℕ = bytesOf (getD rs i d) ++ n .surplus in
+          let k : length o ≡ length out = l .long in
+          let u : at + length (bytesOf (getD rs i d) ++ n .surplus) ≤ length (all rs) = n .within in
+          let room : at + length (bytesOf (getD rs i d) ++ n .surplus) ≤ length o = omega arith in
+          let far : length (all rs) ≡ at + length w + (length (all rs) - (at + length w)) = omega arith in
+          let a : next ≡ length (front rs (suc i)) = n .behind ∙ ends-next in
+          let b : take next o' ≡ front rs (suc i) =
+          ap (λ (k : ℕ). take k o') (n .behind)
+          ∙ ap (take (at + length (bytesOf r))) (n .memory)
+          ∙ over-take o at (bytesOf r) x room
+          ∙ ap (λ (l : List ℕ). l ++ bytesOf r) (l .before)
+          ∙ sym (front-more i d h) in
+          let c : drop (length (all rs)) o' ≡ drop (length (all rs)) out =
+          ap (drop (length (all rs))) (n .memory)
+          ∙ ap (λ (k : ℕ). drop k (over o at w)) far
+          ∙ over-drop o at w room (length (all rs) - (at + length w))
+          ∙ ap (λ (k : ℕ). drop k o) (sym far)
+          ∙ l .rest in
+          let e : length o' ≡ length out = ap length (n .memory) ∙ over-keeps-length o at w room ∙ k in
+          subst (λ (x : ℕ). Laid out x next o') (sym (add-one i)) (record { behind = a; before = b; rest = c; long = e })
 
     pub laid-more : {i at : ℕ} {o : List ℕ} (next : ℕ) (o' : List ℕ) (d : Rec) → i < length rs → Laid out i at o
         → _≡_ {A = ℕ × List ℕ} (next, o') (writtenAt o at (getD rs i d)) → Laid out (i + 1) next o'
     laid-more {i} {at} {o} next o' d h l e =
-        let r : Rec = getD rs i d in
-        let m = front-more i d h in
-        let w = front-within (suc i) in
-        let n : length (front rs (suc i)) ≡ length (front rs i) + length (bytesOf (getD rs i d)) =
-        ap length m ∙ length-append (front rs i) (bytesOf (getD rs i d)) in
-        let g : at ≡ length (front rs i) = l .behind in
-        let k : length o ≡ length out = laid-length l in
-        let p : _≡_ {A = ℕ × List ℕ} (next, o') (at + length (bytesOf (getD rs i d)), over o at (bytesOf (getD rs i d))) =
-        e ∙ sym (room o at (getD rs i d) (omega arith)) in
-        let a : next ≡ length (front rs (suc i)) = ap (λ x. x .0) p ∙ omega arith in
-        let b : o' ≡ over out 0 (front rs (suc i)) =
-        ap (λ x. x .1) p
-        ∙ ap (λ (x : List ℕ). over x at (bytesOf (getD rs i d))) (l .memory)
-        ∙ ap (λ (x : ℕ). over (over out 0 (front rs i)) x (bytesOf (getD rs i d))) g
-        ∙ over-over out (front rs i) (bytesOf (getD rs i d))
-        ∙ ap (over out 0) (sym m) in
-        subst (λ (x : ℕ). Laid out x next o') (sym (add-one i)) (record { behind = a; memory = b })
+        laid-next d h l next o' (exactly-laid o at (getD rs i d) (length (all rs)) next o' (laid-room d h l) (let k = l .long in omega arith) e)
 
     pub laid-all : {i at : ℕ} {o : List ℕ} → i ≡ length rs → Laid out i at o → o ≡ over out 0 (all rs)
     laid-all {i} {at} {o} e l =
-        l .memory ∙ ap (λ (l : List Rec). over out 0 (encode (map cmdOf l))) (ap (λ (k : ℕ). take k rs) e ∙ take-length rs)
+        let f : front rs i ≡ all rs = ap (λ (l : List Rec). encode (map cmdOf l)) (ap (λ (k : ℕ). take k rs) e ∙ take-length rs) in
+        let n : at ≡ length (all rs) = l .behind ∙ ap length f in
+        sym (take-append-drop at o)
+        ∙ ap (λ (x : List ℕ). x ++ drop at o) (l .before ∙ f)
+        ∙ ap (λ (k : ℕ). all rs ++ drop k o) n
+        ∙ ap (λ (x : List ℕ). all rs ++ x) (l .rest)
+        ∙ sym (over-front out (all rs))

@@ -1,13 +1,13 @@
 -- A record's bytes written over lent memory. Assumes nothing.
 use Prim.Native.Nat.{ℕ, suc, _+_, _*_, _/_, _<_, _≤_}
 use mathlib.Core.Path.{_≡_, refl, sym, ap, _∙_, subst}
-use mathlib.Core.List.{List, [], _∷_, _++_, append-assoc}
+use mathlib.Core.List.{List, [], _∷_, _++_, append-assoc, append-nil}
 use native.Mathlib.Numerals.{add-one}
 use native.Mathlib.Omega.{arith}
 use lib.ListN.{length, take, drop, set, take-append-drop, length-append}
 use lib.Seq.{take-suc-set, drop-set-lt, take-append-seam, length-take-le, take-length, paste}
 use borrow.Author.Tests.{lt-ltb, le-ltb, le-leb, lt-leb}
-use Rattle.build.specs.Records.{Rec, bytesOf, over, writtenAt, lenByte, packedAt}
+use Rattle.build.specs.Records.{Rec, bytesOf, over, writtenAt, LaidAt, lenByte, packedAt}
 
 -- as many of a list's elements as are in its front, are its front
 pub take-counted : (k : ℕ) (p : List ℕ) → take (length (take k p)) p ≡ take k p
@@ -52,6 +52,31 @@ module _ (out : List ℕ) (at : ℕ) (r : Rec) where
       ap (λ (x : List ℕ). (at + 1 + n, x)) (q ∙ stored-pasted out at (r .cid) (r .bytes) n h l ∙ ap (λ (x : List ℕ). over out at (r .cid ∷ x)) body)
       ∙ ap (λ (k : ℕ). (k, over out at (bytesOf r))) behind
       ∙ room (omega arith)
+
+  -- with no surplus
+  pub exactly-laid : (end next : ℕ) (o : List ℕ) → at + length (bytesOf r) ≤ end → end ≤ length out
+      → _≡_ {A = ℕ × List ℕ} (next, o) (writtenAt out at r) → LaidAt out at end r next o
+  exactly-laid end next o h k e =
+      let p : _≡_ {A = ℕ × List ℕ} (next, o) (at + length (bytesOf r), over out at (bytesOf r)) = e ∙ sym (room (omega arith)) in
+      let n : bytesOf r ++ [] ≡ bytesOf r = append-nil (bytesOf r) in
+      record {
+        surplus = [];
+        behind = ap (λ x. x .0) p;
+        memory = ap (λ x. x .1) p ∙ ap (over out at) (sym n);
+        within = omega (arith, ap length n);
+      }
+
+  -- with the payload bytes that don't count
+  pub widely-laid : (end n : ℕ) (o : List ℕ) → length (r .bytes) ≡ 5 → at + 6 ≤ end → n ≡ length (take (r .len) (r .bytes))
+      → o ≡ over out at (r .cid ∷ r .bytes) → LaidAt out at end r (at + 1 + n) o
+  widely-laid end n o five h e q =
+      let all : take (r .len) (r .bytes) ++ drop (r .len) (r .bytes) ≡ r .bytes = take-append-drop (r .len) (r .bytes) in
+      record {
+        surplus = drop (r .len) (r .bytes);
+        behind = omega arith;
+        memory = q ∙ ap (λ (l : List ℕ). over out at (r .cid ∷ l)) (sym all);
+        within = omega (arith, ap length all);
+      }
 
 -- a list pasted whole
 pub pasted-whole : (out : List ℕ) (at : ℕ) (p : List ℕ) (n : ℕ) → length p ≡ n → paste out at p n ≡ over out at p

@@ -87,9 +87,10 @@ pub fn mac_commands_len(rules: Rules, records: &[u8]) -> BuildAnswer
     BuildAnswer::Total(sum)
 }
 
-// The commands of all whole slots, one behind the other from the front of out, which has room for them.
-fn write_all(records: &[u8], out: &mut [u8])
-    requires { ⌜ length (encode (map cmdOf (wholeSlots (now records)))) ≤ length (now out) ⌝ }
+// The commands of all whole slots, one behind the other from the front of out, which has room for them. They take total bytes.
+fn write_all(records: &[u8], total: usize, out: &mut [u8])
+    requires { ⌜ total ≡ length (encode (map cmdOf (wholeSlots (now records)))) ⌝ }
+    requires { ⌜ total ≤ length (now out) ⌝ }
     ensures { λ _. ⌜ now (out .exit) ≡ over (now (out .entry)) 0 (encode (map cmdOf (wholeSlots (now (records .entry))))) ⌝ }
 {
     let whole = records.len() / 8;
@@ -97,7 +98,7 @@ fn write_all(records: &[u8], out: &mut [u8])
     let mut i: usize = 0;
     while i < whole {
         let record = slot(records, i);
-        at = record.write(out, at);
+        at = record.lay(out, at, total);
         i += 1;
     }
 }
@@ -112,7 +113,7 @@ pub fn build_mac_commands(rules: Rules, records: &[u8], out: &mut [u8]) -> Build
             if out.len() < total {
                 return BuildAnswer::Refused(Refusal::BufferTooShort);
             }
-            write_all(records, out);
+            write_all(records, total, out);
             answer
         }
         BuildAnswer::RefusedAt {

@@ -6,7 +6,7 @@ ghost use Prim.Native.Nat.{_+_, _≤_};
 ghost use lib.ListN.{length, take};
 ghost use lib.Seq.{paste};
 ghost use Rattle.table.specs.Table.{lengthOf};
-ghost use Rattle.build.specs.Records.{judged, heldBy, writtenAt, packedAt, lenByte, noRecord};
+ghost use Rattle.build.specs.Records.{judged, heldBy, bytesOf, writtenAt, LaidAt, packedAt, lenByte, noRecord};
 ghost use Rattle.build.specs.Told.{toldJudged};
 
 // A command to be written: its CID, the length of its payload, and up to five payload bytes. Bytes past the length don't count.
@@ -76,6 +76,26 @@ impl Record {
         out[at] = self.cid;
         copy(&payload, n, out, body);
         body + n
+    }
+
+    // Writes CID and payload at an offset, among commands that are written up to `end`, and answers the offset behind them. Where there is
+    // room before `end`, all five payload bytes are written, and the commands that follow cover those that don't count: a copy that
+    // ends with the length makes the processor guess the length.
+    pub(crate) fn lay(self, out: &mut [u8], at: usize, end: usize) -> usize
+        requires { ⌜ at + length (bytesOf (heldBy self)) ≤ end ⌝ }
+        requires { ⌜ end ≤ length (now out) ⌝ }
+        ensures { λ r. ⌜ LaidAt (now (out .entry)) at end (heldBy self) r (now (out .exit)) ⌝ }
+    {
+        if 6 <= end - at {
+            let p = self.payload;
+            let bytes = [self.cid, p[0], p[1], p[2], p[3], p[4]];
+            copy(&bytes, 6, out, at);
+            let body = at + 1;
+            let n = self.counted();
+            body + n
+        } else {
+            self.write(out, at)
+        }
     }
 
     // Puts the record into slot i of packed records; the slot's eighth byte stays. Where there is no such slot, nothing is written.

@@ -64,13 +64,6 @@ module _ (L : Rule) (s : List ℕ) (at cid : ℕ) (h : StandsAt L s at cid) wher
         told .1 ∙ ap (λ (k : ℕ). given (command (told .0) k)) (stands .behind)
         ∙ ap₂ (λ (c : ℕ) (p : List ℕ). given (command (record { cid = c; body = p }) (at + size (record { cid = c; body = p })))) cid-is body-is
 
-  -- the next offset of the step is the one behind the command
-  pub next-is : (c : Cmd) → foundAt L s at ≡ given (command c (at + size c)) → given (command c (h .next)) ≡ foundAt L s at
-  next-is c e =
-      let same : given (command (heading (c .cid) (length (c .body))) (at + size c)) ≡ given (command (heading cid (h .len)) (h .next)) = sym (ap inNumbers e) ∙ h .step in
-      let k : at + size c ≡ h .next = cc in
-      sym (e ∙ ap (λ (k : ℕ). given (command c k)) k)
-
 -- what is no command is told in numbers as it is
 abbrev pub AsTold : Answer (Found Heading) → Answer (Found Cmd) → Type 0
 AsTold (given ended) x = given ended ≡ x

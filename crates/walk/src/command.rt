@@ -135,10 +135,18 @@ pub fn uplink_at(stream: &[u8], at: usize) -> UplinkStep
     };
     let found = step_at(rules, stream, at);
     match found {
-        Step::Command { cid, len: _, next } => UplinkStep::Command(
-            uplink_command(stream, at, cid),
-            next,
-        ),
+        Step::Command {
+            cid,
+            len: _,
+            next: _,
+        } => {
+            let command = uplink_command(stream, at, cid);
+            // Its own length and not the step's: where the processor foresees the arm, it knows the next offset too.
+            let len = command.len();
+            let body = at + 1;
+            let behind = body + len;
+            UplinkStep::Command(command, behind)
+        }
         Step::End => UplinkStep::End,
         Step::Stop { reason, at: place } => UplinkStep::Stop { reason, at: place },
         Step::Refused(reason) => UplinkStep::Refused(reason),
@@ -203,10 +211,18 @@ pub fn downlink_at(stream: &[u8], at: usize) -> DownlinkStep
     };
     let found = step_at(rules, stream, at);
     match found {
-        Step::Command { cid, len: _, next } => DownlinkStep::Command(
-            downlink_command(stream, at, cid),
-            next,
-        ),
+        Step::Command {
+            cid,
+            len: _,
+            next: _,
+        } => {
+            let command = downlink_command(stream, at, cid);
+            // Its own length and not the step's: where the processor foresees the arm, it knows the next offset too.
+            let len = command.len();
+            let body = at + 1;
+            let behind = body + len;
+            DownlinkStep::Command(command, behind)
+        }
         Step::End => DownlinkStep::End,
         Step::Stop { reason, at: place } => DownlinkStep::Stop { reason, at: place },
         Step::Refused(reason) => DownlinkStep::Refused(reason),

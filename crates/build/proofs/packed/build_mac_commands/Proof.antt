@@ -41,9 +41,8 @@ write-all-requires c κs =
     let e : totalOf L (slotsOf s) ≡ total n =
     sym (c .before .before .before .before .before .mac-commands-len .ensures) ∙ ap toldBuild (c .before .before .before .answer .given .1) in
     let w = length-is-written L (slotsOf s) n (slots-full (a .rules) s) e in
-    let h : length (encode (map cmdOf (wholeSlots s))) ≤ length (a .out .now) =
-    omega (arith, ap (λ (l : List Cmd). length (encode l)) (cmds-of-slots s)) in
-    h
+    let h : n ≡ length (encode (map cmdOf (wholeSlots s))) = omega (arith, ap (λ (l : List Cmd). length (encode l)) (cmds-of-slots s)) in
+    (h, omega arith)
 
 enum-told : tie.Need-enum-told
 enum-told c = search needs

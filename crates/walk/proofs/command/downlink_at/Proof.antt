@@ -1,11 +1,17 @@
 -- `downlink_at` meets its contract. Assumes nothing.
-use mathlib.Core.Path.{sym, ap, _∙_}
+use mathlib.Core.Path.{_≡_, sym, ap, _∙_}
+use native.Mathlib.Omega.{arith}
+use Prim.Native.Nat.{ℕ, _+_}
+use Rattle.table.specs.Answers.{given}
 use Rattle.table.specs.Table.{lengthOf}
 use Rattle.payloads.specs.Commands.{sentDown}
+use Rattle.payloads.proofs.Commands.{downlink-size}
 use Rattle.walk.specs.Command.{downlinkCmd, StandsAt}
-use Rattle.walk.specs.Step.{foundAt}
+use Rattle.walk.specs.Step.{command, foundAt}
 use Rattle.walk.specs.Told.{toldStep}
-use Rattle.walk.proofs.Commands.{next-is, no-command}
+use Rattle.walk.specs.Walk.{size}
+use Rattle.walk.proofs.Commands.{no-command}
+use Rattle.walk.proofs.Steps.{Goes, found-command}
 use borrow.Author.Needs.{needs}
 use Rattle.walk.proofs.command.downlink_at.Statement.{statement}
 use Rattle.walk.proofs.command.downlink_at.Tie as tie
@@ -27,6 +33,22 @@ enum-known-found c = search needs
 downlink-command-requires : tie.Need-downlink-command-requires
 downlink-command-requires c κs = stands c
 
+len-requires : tie.Need-len-requires
+len-requires c κs = search needs
+
+-- the typed command is the one that stands there, and it ends where the code says
+goes : (c : tie.After-len) → Goes (lengthOf sentDown) (c .before .before .before .before .before .before .before .args .stream .now) (c .before .before .before .before .before .before .before .args .at) (downlinkCmd (c .before .downlink-command .result)) (c .before .before .before .before .before .before .before .args .at + size (downlinkCmd (c .before .downlink-command .result)))
+goes c = found-command (lengthOf sentDown) (c .before .before .before .before .before .before .before .args .stream .now) (c .before .downlink-command .ensures)
+
+behind : (c : tie.After-len) → c .before .before .before .before .before .before .before .args .at + size (downlinkCmd (c .before .downlink-command .result)) ≡ c .before .before .before .before .before .before .before .args .at + 1 + c .len .result
+behind c = omega (arith, downlink-size (c .before .downlink-command .result), c .len .ensures)
+
+add-body : tie.Need-add-body
+add-body c = let m = goes c .fits in omega arith
+
+add-behind : tie.Need-add-behind
+add-behind c = let m = goes c .fits in let k = behind c in omega arith
+
 enum-told : tie.Need-enum-told
 enum-told c = search needs
 
@@ -37,7 +59,7 @@ enum-known-found-3 : tie.Need-enum-known-found-3
 enum-known-found-3 c = search needs
 
 returns : tie.Need-returns
-returns c = next-is (lengthOf sentDown) (c .before .before .before .before .before .before .args .stream .now) (c .before .before .before .before .before .before .args .at) _ (stands (c .before)) (downlinkCmd (c .downlink-command .result)) (c .downlink-command .ensures)
+returns c = sym (c .before .downlink-command .ensures ∙ ap (λ (k : ℕ). given (command (downlinkCmd (c .before .downlink-command .result)) k)) (behind c))
 
 returns-2 : tie.Need-returns-2
 returns-2 c = no-command (foundAt (lengthOf sentDown) (c .before .before .before .before .args .stream .now) (c .before .before .before .before .args .at)) (sym (c .before .before .step-at .ensures) ∙ ap toldStep (c .enum-told .given .1))
@@ -55,6 +77,9 @@ downlink-at-spec =
     step-at-requires
     enum-known-found
     downlink-command-requires
+    len-requires
+    add-body
+    add-behind
     enum-told
     enum-known-found-2
     enum-known-found-3
