@@ -1,0 +1,4 @@
+pub mod Adding
+pub mod Determined
+pub mod Faults
+pub mod Sums

@@ -1,0 +1,7 @@
+// What a program in C or Rust links: the walk and the build down, each behind one function of slices and numbers.
+pub mod records;
+pub mod streams;
+
+pub use records::nazhdivar_build;
+pub use streams::nazhdivar_count;
+pub use streams::nazhdivar_fields;
