@@ -1,0 +1,214 @@
+//! The port beside the Rust original: both are given the same inputs, must answer the same, and are timed in turn.
+//!
+//! `tools/bench` builds and runs it; docs/SPEED.md has the figures.
+
+mod inputs;
+#[path = "../docs/src/src/maccommandcreator.rs"]
+#[allow(dead_code, unexpected_cfgs)]
+mod maccommandcreator;
+#[path = "../docs/src/src/maccommands.rs"]
+#[allow(dead_code, unexpected_cfgs, mismatched_lifetime_syntaxes)]
+mod maccommands;
+mod original;
+#[path = "../oracle/parser.rs"]
+mod parser;
+mod port;
+#[path = "../oracle/rng.rs"]
+#[allow(dead_code)]
+mod rng;
+
+use inputs::{Lists, Order, Streams};
+use maccommands::{parse_downlink_mac_commands, SerializableMacCommand};
+use std::cell::RefCell;
+use std::hint::black_box;
+use std::process::exit;
+use std::time::Instant;
+
+const USAGE: &str = "usage: bench COMMAND
+  table SEED ROUNDS            times every case, each side ROUNDS times, and prints the least
+  cases SEED                   each case's name and the number of its commands
+  one SEED CASE SIDE TIMES     runs a case on one side, `rust` or `rattle`, so many times";
+
+/// Streams are made until they have about a megabyte, so that no branch predictor can learn a case by heart.
+const MEGABYTE: usize = 1_000_000;
+
+/// So many records are in the lists of a case, all together.
+const RECORDS: usize = 16_384;
+
+#[derive(Clone, Copy)]
+enum Work {
+    Count,
+    Fields,
+    Build,
+}
+
+/// A kind of work on inputs of one size: at most so many bytes of a stream, or so many records.
+#[derive(Clone, Copy)]
+struct Case {
+    work: Work,
+    size: usize,
+    order: Order,
+}
+
+impl Case {
+    fn all() -> Vec<Case> {
+        let mut all = Vec::new();
+        for (work, sizes) in [(Work::Count, [MEGABYTE, 242, 15]), (Work::Fields, [MEGABYTE, 242, 15]), (Work::Build, [4096, 64, 4])] {
+            for size in sizes {
+                for order in [Order::Chance, Order::Cycle] {
+                    all.push(Case { work, size, order });
+                }
+            }
+        }
+        all
+    }
+
+    fn named(name: &str) -> Option<Case> {
+        Case::all().into_iter().find(|case| case.name() == name)
+    }
+
+    fn name(self) -> String {
+        let work = match self.work {
+            Work::Count => "count",
+            Work::Fields => "fields",
+            Work::Build => "build",
+        };
+        format!("{work}-{}-{}", self.size, self.order.name())
+    }
+
+    /// The ratio of the times that is aimed at.
+    fn bar(self) -> f64 {
+        match self.work {
+            Work::Count => 0.45,
+            Work::Fields => 0.62,
+            Work::Build => 0.55,
+        }
+    }
+
+    fn ready(self, seed: u64) -> Ready {
+        match self.work {
+            Work::Count => over_streams(self.streams(seed), original::count, port::count),
+            Work::Fields => over_streams(self.streams(seed), original::fields, port::fields),
+            Work::Build => over_lists(Lists::new(seed, self.order, RECORDS / self.size, self.size)),
+        }
+    }
+
+    fn streams(self, seed: u64) -> Streams {
+        Streams::new(seed, self.order, MEGABYTE / self.size, self.size)
+    }
+}
+
+/// A case with its inputs: what each side does with all of them, one after the other.
+struct Ready {
+    commands: usize,
+    rust: Box<dyn Fn()>,
+    rattle: Box<dyn Fn()>,
+}
+
+fn over_streams(streams: Streams, rust: fn(&[u8]) -> u64, rattle: fn(&[u8]) -> u64) -> Ready {
+    for stream in streams.each() {
+        same(rust(stream), rattle(stream), stream);
+    }
+    let streams: &'static Streams = Box::leak(Box::new(streams));
+    let each = move |side: fn(&[u8]) -> u64| {
+        let side = black_box(side);
+        for stream in streams.each() {
+            black_box(side(black_box(stream)));
+        }
+    };
+    Ready { commands: streams.commands, rust: Box::new(move || each(rust)), rattle: Box::new(move || each(rattle)) }
+}
+
+fn over_lists(lists: Lists) -> Ready {
+    let lists: &'static Lists = Box::leak(Box::new(lists));
+    let commands: &'static Vec<_> = Box::leak(Box::new(parse_downlink_mac_commands(&lists.stream).collect()));
+    let objects: Vec<&dyn SerializableMacCommand> = commands.iter().map(|c| c as &dyn SerializableMacCommand).collect();
+    let objects: &'static Vec<_> = Box::leak(Box::new(objects));
+    let (slots, room) = (8 * lists.length, 6 * lists.length);
+    for (list, packed) in objects.chunks(lists.length).zip(lists.packed.chunks(slots)) {
+        let (mut one, mut other) = (vec![0; room], vec![0; room]);
+        same(original::build(list, &mut one), port::build(packed, &mut other), packed);
+        same(one, other, packed);
+    }
+    let out = RefCell::new(vec![0; room]);
+    let rust = move || {
+        for list in objects.chunks(lists.length) {
+            black_box(original::build(black_box(list), black_box(&mut out.borrow_mut())));
+        }
+    };
+    let out = RefCell::new(vec![0; room]);
+    let rattle = move || {
+        for packed in lists.packed.chunks(slots) {
+            black_box(port::build(black_box(packed), black_box(&mut out.borrow_mut())));
+        }
+    };
+    Ready { commands: objects.len(), rust: Box::new(rust), rattle: Box::new(rattle) }
+}
+
+/// Both sides gave the same answer.
+fn same<T: PartialEq + std::fmt::Debug>(rust: T, rattle: T, input: &[u8]) {
+    if rust != rattle {
+        eprintln!("bench: the Rust answers {rust:?} and the port {rattle:?} to {input:02X?}");
+        exit(1);
+    }
+}
+
+fn nanoseconds(side: &dyn Fn()) -> f64 {
+    let start = Instant::now();
+    side();
+    start.elapsed().as_nanos() as f64
+}
+
+fn table(seed: u64, rounds: usize) {
+    let cases: Vec<(Case, Ready)> = Case::all().into_iter().map(|case| (case, case.ready(seed))).collect();
+    let mut least = vec![(f64::INFINITY, f64::INFINITY); cases.len()];
+    for round in 0..rounds {
+        for ((_, ready), (rust, rattle)) in cases.iter().zip(&mut least) {
+            // Whoever comes second finds the input in the cache, so they take turns.
+            if round % 2 == 0 {
+                *rust = rust.min(nanoseconds(&ready.rust));
+            }
+            *rattle = rattle.min(nanoseconds(&ready.rattle));
+            if round % 2 == 1 {
+                *rust = rust.min(nanoseconds(&ready.rust));
+            }
+        }
+    }
+    println!("{:<22} {:>9} {:>8} {:>8} {:>6} {:>5}", "case", "commands", "Rust", "Rattle", "ratio", "bar");
+    for ((case, ready), (rust, rattle)) in cases.iter().zip(least) {
+        let (rust, rattle, ratio) = (rust / ready.commands as f64, rattle / ready.commands as f64, rattle / rust);
+        let verdict = if ratio <= case.bar() { "met" } else { "missed" };
+        println!("{:<22} {:>9} {rust:>8.2} {rattle:>8.2} {ratio:>6.2} {:>5.2} {verdict}", case.name(), ready.commands, case.bar());
+    }
+}
+
+fn main() {
+    let words: Vec<String> = std::env::args().skip(1).collect();
+    let words: Vec<&str> = words.iter().map(String::as_str).collect();
+    let number = |word: &str| word.parse::<u64>().unwrap_or_else(|_| usage());
+    match words[..] {
+        ["table", seed, rounds] => table(number(seed), number(rounds) as usize),
+        ["cases", seed] => {
+            for case in Case::all() {
+                println!("{} {}", case.name(), case.ready(number(seed)).commands);
+            }
+        }
+        ["one", seed, case, side, times] => {
+            let ready = Case::named(case).unwrap_or_else(|| usage()).ready(number(seed));
+            let run = match side {
+                "rust" => ready.rust,
+                "rattle" => ready.rattle,
+                _ => usage(),
+            };
+            for _ in 0..number(times) {
+                run();
+            }
+        }
+        _ => usage(),
+    }
+}
+
+fn usage() -> ! {
+    eprintln!("{USAGE}");
+    exit(2);
+}
