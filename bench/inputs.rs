@@ -1,5 +1,7 @@
 //! What both sides are given: streams of valid commands that a device is sent, and lists of records of such commands.
 
+use crate::maccommands::SerializableMacCommand;
+use crate::original::creator;
 use crate::rng::Rng;
 
 /// Each CID, with the bytes of its payload.
@@ -77,25 +79,33 @@ impl Streams {
     }
 }
 
-/// Lists of records, all of one length: packed, eight bytes each, and as the stream that they make.
+/// Lists of records, all of one length, in three forms that say the same.
 pub struct Lists {
     pub length: usize,
+    /// For the Rust: each record as a creator.
+    pub creators: Vec<Box<dyn SerializableMacCommand>>,
+    /// For the port: each in eight bytes.
     pub packed: Vec<u8>,
+    /// The stream that the creators make, for the Rust to read commands from.
     pub stream: Vec<u8>,
 }
 
 impl Lists {
     pub fn new(seed: u64, order: Order, count: usize, length: usize) -> Lists {
         let mut source = Source::new(seed, order);
-        let mut made = Lists { length, packed: Vec::new(), stream: Vec::new() };
+        let mut made = Lists { length, creators: Vec::new(), packed: Vec::new(), stream: Vec::new() };
         for _ in 0..count * length {
             let command = source.next(6).expect("no command has more");
+            let creator = creator(command[0], &command[1..]);
+            let payload = creator.payload_bytes();
             let mut slot = [0; 8];
-            slot[0] = command[0];
-            slot[1] = (command.len() - 1) as u8;
-            slot[2..1 + command.len()].copy_from_slice(&command[1..]);
+            slot[0] = creator.cid();
+            slot[1] = payload.len() as u8;
+            slot[2..2 + payload.len()].copy_from_slice(payload);
             made.packed.extend(slot);
-            made.stream.extend(command);
+            made.stream.push(creator.cid());
+            made.stream.extend(payload);
+            made.creators.push(creator);
         }
         made
     }

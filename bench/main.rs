@@ -39,7 +39,10 @@ const RECORDS: usize = 16_384;
 enum Work {
     Count,
     Fields,
+    /// The Rust is given creators, each of its own type.
     Build,
+    /// The Rust is given commands that it read from a stream, all of one type.
+    Resend,
 }
 
 /// A kind of work on inputs of one size: at most so many bytes of a stream, or so many records.
@@ -53,7 +56,8 @@ struct Case {
 impl Case {
     fn all() -> Vec<Case> {
         let mut all = Vec::new();
-        for (work, sizes) in [(Work::Count, [MEGABYTE, 242, 15]), (Work::Fields, [MEGABYTE, 242, 15]), (Work::Build, [4096, 64, 4])] {
+        let (streams, lists) = ([MEGABYTE, 242, 15], [4096, 64, 4]);
+        for (work, sizes) in [(Work::Count, streams), (Work::Fields, streams), (Work::Build, lists), (Work::Resend, lists)] {
             for size in sizes {
                 for order in [Order::Chance, Order::Cycle] {
                     all.push(Case { work, size, order });
@@ -72,6 +76,7 @@ impl Case {
             Work::Count => "count",
             Work::Fields => "fields",
             Work::Build => "build",
+            Work::Resend => "resend",
         };
         format!("{work}-{}-{}", self.size, self.order.name())
     }
@@ -81,7 +86,7 @@ impl Case {
         match self.work {
             Work::Count => 0.45,
             Work::Fields => 0.62,
-            Work::Build => 0.55,
+            Work::Build | Work::Resend => 0.55,
         }
     }
 
@@ -89,12 +94,24 @@ impl Case {
         match self.work {
             Work::Count => over_streams(self.streams(seed), original::count, port::count),
             Work::Fields => over_streams(self.streams(seed), original::fields, port::fields),
-            Work::Build => over_lists(Lists::new(seed, self.order, RECORDS / self.size, self.size)),
+            Work::Build => {
+                let lists = self.lists(seed);
+                over_lists(lists, lists.creators.iter().map(|creator| &**creator).collect())
+            }
+            Work::Resend => {
+                let lists = self.lists(seed);
+                let commands: &'static mut [_] = parse_downlink_mac_commands(&lists.stream).collect::<Vec<_>>().leak();
+                over_lists(lists, commands.iter().map(|command| command as _).collect())
+            }
         }
     }
 
-    fn streams(self, seed: u64) -> Streams {
-        Streams::new(seed, self.order, MEGABYTE / self.size, self.size)
+    fn streams(self, seed: u64) -> &'static Streams {
+        Box::leak(Box::new(Streams::new(seed, self.order, MEGABYTE / self.size, self.size)))
+    }
+
+    fn lists(self, seed: u64) -> &'static Lists {
+        Box::leak(Box::new(Lists::new(seed, self.order, RECORDS / self.size, self.size)))
     }
 }
 
@@ -105,11 +122,10 @@ struct Ready {
     rattle: Box<dyn Fn()>,
 }
 
-fn over_streams(streams: Streams, rust: fn(&[u8]) -> u64, rattle: fn(&[u8]) -> u64) -> Ready {
+fn over_streams(streams: &'static Streams, rust: fn(&[u8]) -> u64, rattle: fn(&[u8]) -> u64) -> Ready {
     for stream in streams.each() {
         same(rust(stream), rattle(stream), stream);
     }
-    let streams: &'static Streams = Box::leak(Box::new(streams));
     let each = move |side: fn(&[u8]) -> u64| {
         let side = black_box(side);
         for stream in streams.each() {
@@ -119,11 +135,8 @@ fn over_streams(streams: Streams, rust: fn(&[u8]) -> u64, rattle: fn(&[u8]) -> u
     Ready { commands: streams.commands, rust: Box::new(move || each(rust)), rattle: Box::new(move || each(rattle)) }
 }
 
-fn over_lists(lists: Lists) -> Ready {
-    let lists: &'static Lists = Box::leak(Box::new(lists));
-    let commands: &'static Vec<_> = Box::leak(Box::new(parse_downlink_mac_commands(&lists.stream).collect()));
-    let objects: Vec<&dyn SerializableMacCommand> = commands.iter().map(|c| c as &dyn SerializableMacCommand).collect();
-    let objects: &'static Vec<_> = Box::leak(Box::new(objects));
+fn over_lists(lists: &'static Lists, objects: Vec<&'static dyn SerializableMacCommand>) -> Ready {
+    let (commands, objects): (usize, &'static [_]) = (objects.len(), objects.leak());
     let (slots, room) = (8 * lists.length, 6 * lists.length);
     for (list, packed) in objects.chunks(lists.length).zip(lists.packed.chunks(slots)) {
         let (mut one, mut other) = (vec![0; room], vec![0; room]);
@@ -142,7 +155,7 @@ fn over_lists(lists: Lists) -> Ready {
             black_box(port::build(black_box(packed), black_box(&mut out.borrow_mut())));
         }
     };
-    Ready { commands: objects.len(), rust: Box::new(rust), rattle: Box::new(rattle) }
+    Ready { commands, rust: Box::new(rust), rattle: Box::new(rattle) }
 }
 
 /// Both sides gave the same answer.

@@ -1,6 +1,6 @@
 //! The Rust original, used as a program would use it.
 
-use crate::maccommandcreator::build_mac_commands;
+use crate::maccommandcreator::*;
 use crate::maccommands::{parse_downlink_mac_commands, DownlinkMacCommand, SerializableMacCommand};
 
 #[inline(never)]
@@ -52,4 +52,59 @@ fn worth(command: &DownlinkMacCommand) -> u32 {
 #[inline(never)]
 pub fn build(commands: &[&dyn SerializableMacCommand], out: &mut [u8]) -> u64 {
     build_mac_commands(commands, out).expect("there is room") as u64
+}
+
+/// The creator of a CID, with every field set from these bytes.
+pub fn creator(cid: u8, b: &[u8]) -> Box<dyn SerializableMacCommand> {
+    let fits = "the field holds it";
+    match cid {
+        0x02 => {
+            let mut c = LinkCheckAnsCreator::new();
+            c.set_margin(b[0]).set_gateway_count(b[1]);
+            Box::new(c)
+        }
+        0x03 => {
+            let mut c = LinkADRReqCreator::new();
+            c.set_data_rate(b[0] >> 4).expect(fits).set_tx_power(b[0] & 15).expect(fits);
+            c.set_channel_mask([b[1], b[2]]).set_redundancy(b[3]);
+            Box::new(c)
+        }
+        0x04 => {
+            let mut c = DutyCycleReqCreator::new();
+            c.set_max_duty_cycle(b[0] & 15).expect(fits);
+            Box::new(c)
+        }
+        0x05 => {
+            let mut c = RXParamSetupReqCreator::new();
+            c.set_dl_settings(b[0]).set_frequency(&[b[1], b[2], b[3]]);
+            Box::new(c)
+        }
+        0x06 => Box::new(DevStatusReqCreator::new()),
+        0x07 => {
+            let mut c = NewChannelReqCreator::new();
+            c.set_channel_index(b[0]).set_frequency(&[b[1], b[2], b[3]]).set_data_rate_range(b[4]);
+            Box::new(c)
+        }
+        0x08 => {
+            let mut c = RXTimingSetupReqCreator::new();
+            c.set_delay(b[0] & 15).expect(fits);
+            Box::new(c)
+        }
+        0x09 => {
+            let mut c = TXParamSetupReqCreator::new();
+            c.set_downlink_dwell_time().set_uplink_dwell_time().set_max_eirp(b[0] & 15).expect(fits);
+            Box::new(c)
+        }
+        0x0A => {
+            let mut c = DlChannelReqCreator::new();
+            c.set_channel_index(b[0]).set_frequency(&[b[1], b[2], b[3]]);
+            Box::new(c)
+        }
+        0x0D => {
+            let mut c = DeviceTimeAnsCreator::new();
+            c.set_seconds(u32::from_le_bytes([b[0], b[1], b[2], b[3]])).set_nano_seconds(u32::from(b[4]) * 3_906_250).expect(fits);
+            Box::new(c)
+        }
+        _ => unreachable!("no CID of the table"),
+    }
 }
