@@ -45,6 +45,25 @@ enum Work {
     Resend,
 }
 
+impl Work {
+    fn name(self) -> &'static str {
+        match self {
+            Work::Count => "count",
+            Work::Fields => "fields",
+            Work::Build => "build",
+            Work::Resend => "resend",
+        }
+    }
+
+    /// What a size counts.
+    fn unit(self) -> &'static str {
+        match self {
+            Work::Count | Work::Fields => "bytes",
+            Work::Build | Work::Resend => "records",
+        }
+    }
+}
+
 /// A kind of work on inputs of one size: at most so many bytes of a stream, or so many records.
 #[derive(Clone, Copy)]
 struct Case {
@@ -72,13 +91,7 @@ impl Case {
     }
 
     fn name(self) -> String {
-        let work = match self.work {
-            Work::Count => "count",
-            Work::Fields => "fields",
-            Work::Build => "build",
-            Work::Resend => "resend",
-        };
-        format!("{work}-{}-{}", self.size, self.order.name())
+        format!("{}-{}-{}", self.work.name(), self.size, self.order.name())
     }
 
     /// The ratio of the times that is aimed at.
@@ -187,11 +200,12 @@ fn table(seed: u64, rounds: usize) {
             }
         }
     }
-    println!("{:<22} {:>9} {:>8} {:>8} {:>6} {:>5}", "case", "commands", "Rust", "Rattle", "ratio", "bar");
+    println!("{:<7} {:<7} {:>15} {:>7} {:>7} {:>6} {:>5}", "work", "order", "size", "Rust", "Rattle", "ratio", "bar");
     for ((case, ready), (rust, rattle)) in cases.iter().zip(least) {
         let (rust, rattle, ratio) = (rust / ready.commands as f64, rattle / ready.commands as f64, rattle / rust);
         let verdict = if ratio <= case.bar() { "met" } else { "missed" };
-        println!("{:<22} {:>9} {rust:>8.2} {rattle:>8.2} {ratio:>6.2} {:>5.2} {verdict}", case.name(), ready.commands, case.bar());
+        let (work, order, size) = (case.work.name(), case.order.name(), format!("{} {}", case.size, case.work.unit()));
+        println!("{work:<7} {order:<7} {size:>15} {rust:>7.2} {rattle:>7.2} {ratio:>6.2} {:>5.2} {verdict}", case.bar());
     }
 }
 

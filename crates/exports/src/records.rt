@@ -7,7 +7,7 @@ ghost use Rattle.table.specs.Table.{lengthOf};
 ghost use Rattle.payloads.specs.Commands.{sentDown};
 ghost use Rattle.build.specs.Build.{buildOf};
 ghost use Rattle.build.specs.Records.{slotsOf};
-ghost use Rattle.exports.specs.Answer.{inOne, withOne};
+ghost use Rattle.exports.specs.Answer.{withOne};
 
 // Writes the commands of packed records, eight bytes each, that a device is sent. Answers the bytes written, or, from 2 ^ 32 on, a
 // refusal: its number times 2 ^ 32, and the place of the record at fault.

@@ -17,11 +17,30 @@ ghost use mathlib.Core.Path.{_≡_};
 ghost use lib.ListN.{length};
 ghost use Rattle.bits.specs.Bits.{bitOf};
 ghost use Rattle.table.specs.Table.{lengthOf};
-ghost use Rattle.payloads.specs.Bytes.{DeviceTimeAns·bytes, DlChannelReq·bytes, LinkADRReq·bytes, LinkCheckAns·bytes, NewChannelReq·bytes, RXParamSetupReq·bytes, TXParamSetupReq·bytes};
+ghost use Rattle.payloads.specs.Bytes.{
+  DeviceTimeAns·bytes,
+  DlChannelReq·bytes,
+  LinkADRReq·bytes,
+  LinkCheckAns·bytes,
+  NewChannelReq·bytes,
+  RXParamSetupReq·bytes,
+  TXParamSetupReq·bytes,
+};
 ghost use Rattle.payloads.specs.Commands.{sentDown};
 ghost use Rattle.walk.specs.Command.{downlinkCmd};
 ghost use Rattle.walk.specs.Walk.{walkOf};
-ghost use Rattle.exports.specs.Fields.{sum, worth, fieldsOf, DeviceTimeAns·says, DlChannelReq·says, LinkADRReq·says, LinkCheckAns·says, NewChannelReq·says, RXParamSetupReq·says, TXParamSetupReq·says};
+ghost use Rattle.exports.specs.Fields.{
+  sum,
+  worth,
+  fieldsOf,
+  DeviceTimeAns·says,
+  DlChannelReq·says,
+  LinkADRReq·says,
+  LinkCheckAns·says,
+  NewChannelReq·says,
+  RXParamSetupReq·says,
+  TXParamSetupReq·says,
+};
 
 // How many commands the walk hands out.
 #[no_mangle]
