@@ -36,7 +36,7 @@ add-result : tie.Need-add-result
 add-result c =
     let told = sym (ap (λ (a : Built × List ℕ). a .0) (c .before .before .before .before .before .before .build-mac-commands .ensures)) ∙ ap toldBuild (c .before .before .answer2 .given .1) in
     let a = c .before .before .before .before .before .before .before .before .before .before .args in
-    let below = fault-below (lengthOf sentDown) (slotsOf (a .records .now)) (a .out .now) told in
+    let below = fault-below (slotsOf (a .records .now)) (a .out .now) told in
     omega arith
 
 enum-known-answer-3 : tie.Need-enum-known-answer-3
