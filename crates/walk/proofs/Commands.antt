@@ -64,6 +64,14 @@ module _ (L : Rule) (s : List ℕ) (at cid : ℕ) (h : StandsAt L s at cid) wher
         told .1 ∙ ap (λ (k : ℕ). given (command (told .0) k)) (stands .behind)
         ∙ ap₂ (λ (c : ℕ) (p : List ℕ). given (command (record { cid = c; body = p }) (at + size (record { cid = c; body = p })))) cid-is body-is
 
+-- a command that stands at an offset, with a payload of so many bytes: it ends in the stream, and it is what the step tells
+module _ (L : Rule) (s : List ℕ) (at : ℕ) (c : Cmd) (here : foundAt L s at ≡ given (command c (at + size c))) (len : ℕ) (long : length (c .body) ≡ len) where
+  pub ends-in : at + 1 + len ≤ length s
+  ends-in = let g = found-command L s here .fits in omega arith
+
+  pub ends-there : given (command c (at + 1 + len)) ≡ foundAt L s at
+  ends-there = let e : at + size c ≡ at + 1 + len = omega arith in sym (here ∙ ap (λ (k : ℕ). given (command c k)) e)
+
 -- what is no command is told in numbers as it is
 abbrev pub AsTold : Answer (Found Heading) → Answer (Found Cmd) → Type 0
 AsTold (given ended) x = given ended ≡ x

@@ -1,17 +1,15 @@
 -- `uplink_at` meets its contract. Assumes nothing.
-use mathlib.Core.Path.{_≡_, sym, ap, _∙_}
+use Prim.Native.Nat.{_+_, _≤_}
+use mathlib.Core.Path.{sym, ap, _∙_}
 use native.Mathlib.Omega.{arith}
-use Prim.Native.Nat.{ℕ, _+_}
-use Rattle.table.specs.Answers.{given}
+use lib.ListN.{length}
 use Rattle.table.specs.Table.{lengthOf}
 use Rattle.payloads.specs.Commands.{sentUp}
 use Rattle.payloads.proofs.Commands.{uplink-size}
 use Rattle.walk.specs.Command.{uplinkCmd, StandsAt}
-use Rattle.walk.specs.Step.{command, foundAt}
+use Rattle.walk.specs.Step.{foundAt}
 use Rattle.walk.specs.Told.{toldStep}
-use Rattle.walk.specs.Walk.{size}
-use Rattle.walk.proofs.Commands.{no-command}
-use Rattle.walk.proofs.Steps.{Goes, found-command}
+use Rattle.walk.proofs.Commands.{ends-in, ends-there, no-command}
 use borrow.Author.Needs.{needs}
 use Rattle.walk.proofs.command.uplink_at.Statement.{statement}
 use Rattle.walk.proofs.command.uplink_at.Tie as tie
@@ -36,18 +34,18 @@ uplink-command-requires c κs = stands c
 len-requires : tie.Need-len-requires
 len-requires c κs = search needs
 
--- the typed command is the one that stands there, and it ends where the code says
-goes : (c : tie.After-len) → Goes (lengthOf sentUp) (c .before .before .before .before .before .before .before .args .stream .now) (c .before .before .before .before .before .before .before .args .at) (uplinkCmd (c .before .uplink-command .result)) (c .before .before .before .before .before .before .before .args .at + size (uplinkCmd (c .before .uplink-command .result)))
-goes c = found-command (lengthOf sentUp) (c .before .before .before .before .before .before .before .args .stream .now) (c .before .uplink-command .ensures)
-
-behind : (c : tie.After-len) → c .before .before .before .before .before .before .before .args .at + size (uplinkCmd (c .before .uplink-command .result)) ≡ c .before .before .before .before .before .before .before .args .at + 1 + c .len .result
-behind c = omega (arith, uplink-size (c .before .uplink-command .result), c .len .ensures)
+-- the typed command ends in the stream, where the code says
+ends : (c : tie.After-len) → c .before .before .before .before .before .before .before .args .at + 1 + c .len .result ≤ length (c .before .before .before .before .before .before .before .args .stream .now)
+ends c =
+    let a = c .before .before .before .before .before .before .before .args in
+    let r = c .before .uplink-command in
+    ends-in (lengthOf sentUp) (a .stream .now) (a .at) (uplinkCmd (r .result)) (r .ensures) _ (uplink-size (r .result) ∙ sym (c .len .ensures))
 
 add-body : tie.Need-add-body
-add-body c = let m = goes c .fits in omega arith
+add-body c = let m = ends c in omega arith
 
 add-behind : tie.Need-add-behind
-add-behind c = let m = goes c .fits in let k = behind c in omega arith
+add-behind c = let m = ends c in omega arith
 
 enum-told : tie.Need-enum-told
 enum-told c = search needs
@@ -59,7 +57,10 @@ enum-known-found-3 : tie.Need-enum-known-found-3
 enum-known-found-3 c = search needs
 
 returns : tie.Need-returns
-returns c = sym (c .before .uplink-command .ensures ∙ ap (λ (k : ℕ). given (command (uplinkCmd (c .before .uplink-command .result)) k)) (behind c))
+returns c =
+    let a = c .before .before .before .before .before .before .before .args in
+    let r = c .before .uplink-command in
+    ends-there (lengthOf sentUp) (a .stream .now) (a .at) (uplinkCmd (r .result)) (r .ensures) _ (uplink-size (r .result) ∙ sym (c .len .ensures))
 
 returns-2 : tie.Need-returns-2
 returns-2 c = no-command (foundAt (lengthOf sentUp) (c .before .before .before .before .args .stream .now) (c .before .before .before .before .args .at)) (sym (c .before .before .step-at .ensures) ∙ ap toldStep (c .enum-told .given .1))
