@@ -16,6 +16,7 @@ mod port;
 #[path = "../oracle/rng.rs"]
 #[allow(dead_code)]
 mod rng;
+mod trials;
 
 use inputs::{Lists, Order, Streams};
 use maccommands::{parse_downlink_mac_commands, SerializableMacCommand};
@@ -26,6 +27,7 @@ use std::time::Instant;
 
 const USAGE: &str = "usage: bench COMMAND
   table SEED ROUNDS            times every case, each side ROUNDS times, and prints the least
+  trials SEED ROUNDS           times other ways to read every field
   cases SEED                   each case's name and the number of its commands
   one SEED CASE SIDE TIMES     runs a case on one side, `rust` or `rattle`, so many times";
 
@@ -139,13 +141,14 @@ fn over_streams(streams: &'static Streams, rust: fn(&[u8]) -> u64, rattle: fn(&[
     for stream in streams.each() {
         same(rust(stream), rattle(stream), stream);
     }
-    let each = move |side: fn(&[u8]) -> u64| {
-        let side = black_box(side);
-        for stream in streams.each() {
-            black_box(side(black_box(stream)));
-        }
-    };
-    Ready { commands: streams.commands, rust: Box::new(move || each(rust)), rattle: Box::new(move || each(rattle)) }
+    Ready { commands: streams.commands, rust: Box::new(move || each(streams, rust)), rattle: Box::new(move || each(streams, rattle)) }
+}
+
+fn each(streams: &Streams, side: fn(&[u8]) -> u64) {
+    let side = black_box(side);
+    for stream in streams.each() {
+        black_box(side(black_box(stream)));
+    }
 }
 
 fn over_lists(lists: &'static Lists, objects: Vec<&'static dyn SerializableMacCommand>) -> Ready {
@@ -209,12 +212,36 @@ fn table(seed: u64, rounds: usize) {
     }
 }
 
+fn trials(seed: u64, rounds: usize) {
+    let mut ways: Vec<(&str, fn(&[u8]) -> u64)> = vec![("Rust", original::fields), ("Rattle", port::fields)];
+    ways.extend(trials::ALL);
+    print!("{:<7} {:>15}", "order", "size");
+    ways.iter().for_each(|(name, _)| print!(" {name:>16}"));
+    println!();
+    for case in Case::all().into_iter().filter(|case| matches!(case.work, Work::Fields)) {
+        let streams = case.streams(seed);
+        for stream in streams.each() {
+            ways.iter().for_each(|(_, way)| same(original::fields(stream), way(stream), stream));
+        }
+        let mut least = vec![f64::INFINITY; ways.len()];
+        for _ in 0..rounds {
+            for ((_, way), least) in ways.iter().zip(&mut least) {
+                *least = least.min(nanoseconds(&|| each(streams, *way)));
+            }
+        }
+        print!("{:<7} {:>15}", case.order.name(), format!("{} bytes", case.size));
+        least.iter().for_each(|time| print!(" {:>9.2} ({:.2})", time / streams.commands as f64, time / least[0]));
+        println!();
+    }
+}
+
 fn main() {
     let words: Vec<String> = std::env::args().skip(1).collect();
     let words: Vec<&str> = words.iter().map(String::as_str).collect();
     let number = |word: &str| word.parse::<u64>().unwrap_or_else(|_| usage());
     match words[..] {
         ["table", seed, rounds] => table(number(seed), number(rounds) as usize),
+        ["trials", seed, rounds] => trials(number(seed), number(rounds) as usize),
         ["cases", seed] => {
             for case in Case::all() {
                 println!("{} {}", case.name(), case.ready(number(seed)).commands);
