@@ -28,50 +28,38 @@ encode-append (c ∷ cs) ds =
 over-front : (out b : List ℕ) → over out 0 b ≡ b ++ drop (length b) out
 over-front out b = ap (λ (k : ℕ). b ++ drop k out) (zero-add (length b))
 
-pub over-length : (out b : List ℕ) → length b ≤ length out → length (over out 0 b) ≡ length out
-over-length out b h =
-    ap length (over-front out b)
-    ∙ length-append b (drop (length b) out)
-    ∙ ap (λ (k : ℕ). length b + k) (length-drop (length b) out)
-    ∙ omega arith
-
 -- ---- bytes over memory that has room for them: what is before their end, and what is behind it
 
-module _ (o : List ℕ) (at : ℕ) (b x : List ℕ) (h : at + length (b ++ x) ≤ length o) where
-  parts : over o at (b ++ x) ≡ (take at o ++ b) ++ (x ++ drop (at + length (b ++ x)) o)
-  parts =
-      ap (λ (l : List ℕ). take at o ++ l) (append-assoc b x (drop (at + length (b ++ x)) o))
-      ∙ sym (append-assoc (take at o) b (x ++ drop (at + length (b ++ x)) o))
+to-end : (o : List ℕ) (at : ℕ) (b : List ℕ) → at ≤ length o → length (take at o ++ b) ≡ at + length b
+to-end o at b h = length-append (take at o) b ∙ ap (λ (k : ℕ). k + length b) (length-take-le at o h)
 
-  ends : length (take at o ++ b) ≡ at + length b
-  ends = length-append (take at o) b ∙ ap (λ (k : ℕ). k + length b) (length-take-le at o (omega arith))
+-- up to the end of the first of them
+over-take : (o : List ℕ) (at : ℕ) (b x : List ℕ) → at ≤ length o → take (at + length b) (over o at (b ++ x)) ≡ take at o ++ b
+over-take o at b x h =
+    let rest : List ℕ = drop (at + length (b ++ x)) o in
+    let parts : over o at (b ++ x) ≡ (take at o ++ b) ++ (x ++ rest) =
+    ap (λ (l : List ℕ). take at o ++ l) (append-assoc b x rest) ∙ sym (append-assoc (take at o) b (x ++ rest)) in
+    ap (λ (k : ℕ). take k (over o at (b ++ x))) (sym (to-end o at b h))
+    ∙ ap (take (length (take at o ++ b))) parts
+    ∙ take-append-seam (take at o ++ b) (x ++ rest)
 
-  over-take : take (at + length b) (over o at (b ++ x)) ≡ take at o ++ b
-  over-take =
-      ap (λ (k : ℕ). take k (over o at (b ++ x))) (sym ends)
-      ∙ ap (take (length (take at o ++ b))) parts
-      ∙ take-append-seam (take at o ++ b) (x ++ drop (at + length (b ++ x)) o)
-
--- from an offset that is so far behind them
 module _ (o : List ℕ) (at : ℕ) (w : List ℕ) (h : at + length w ≤ length o) where
-  whole : over o at w ≡ (take at o ++ w) ++ drop (at + length w) o
-  whole = sym (append-assoc (take at o) w (drop (at + length w) o))
+  parts : over o at w ≡ (take at o ++ w) ++ drop (at + length w) o
+  parts = sym (append-assoc (take at o) w (drop (at + length w) o))
 
-  ends-whole : length (take at o ++ w) ≡ at + length w
-  ends-whole = length-append (take at o) w ∙ ap (λ (k : ℕ). k + length w) (length-take-le at o (omega arith))
-
+  -- from an offset on that is behind them all
   over-drop : (k : ℕ) → drop (at + length w + k) (over o at w) ≡ drop (at + length w + k) o
   over-drop k =
-      ap (λ (n : ℕ). drop (n + k) (over o at w)) (sym ends-whole)
-      ∙ ap (drop (length (take at o ++ w) + k)) whole
+      ap (λ (n : ℕ). drop (n + k) (over o at w)) (sym (to-end o at w (omega arith)))
+      ∙ ap (drop (length (take at o ++ w) + k)) parts
       ∙ drop-append-add (take at o ++ w) (drop (at + length w) o) k
       ∙ drop-drop k (at + length w) o
 
-  over-keeps-length : length (over o at w) ≡ length o
-  over-keeps-length =
-      ap length whole
+  pub over-length : length (over o at w) ≡ length o
+  over-length =
+      ap length parts
       ∙ length-append (take at o ++ w) (drop (at + length w) o)
-      ∙ omega (arith, ends-whole, length-drop (at + length w) o)
+      ∙ omega (arith, to-end o at w (omega arith), length-drop (at + length w) o)
 
 module _ (rs : List Rec) where
   front-more : (i : ℕ) (d : Rec) → i < length rs → front rs (suc i) ≡ front rs i ++ bytesOf (getD rs i d)
@@ -126,7 +114,7 @@ module _ (rs : List Rec) where
           let b : take next o' ≡ front rs (suc i) =
           ap (λ (k : ℕ). take k o') (n .behind)
           ∙ ap (take (at + length (bytesOf r))) (n .memory)
-          ∙ over-take o at (bytesOf r) x room
+          ∙ over-take o at (bytesOf r) x (omega arith)
           ∙ ap (λ (l : List ℕ). l ++ bytesOf r) (l .before)
           ∙ sym (front-more i d h) in
           let c : drop (length (all rs)) o' ≡ drop (length (all rs)) out =
@@ -135,7 +123,7 @@ module _ (rs : List Rec) where
           ∙ over-drop o at w room (length (all rs) - (at + length w))
           ∙ ap (λ (k : ℕ). drop k o) (sym far)
           ∙ l .rest in
-          let e : length o' ≡ length out = ap length (n .memory) ∙ over-keeps-length o at w room ∙ k in
+          let e : length o' ≡ length out = ap length (n .memory) ∙ over-length o at w room ∙ k in
           subst (λ (x : ℕ). Laid out x next o') (sym (add-one i)) (record { behind = a; before = b; rest = c; long = e })
 
     pub laid-more : {i at : ℕ} {o : List ℕ} (next : ℕ) (o' : List ℕ) (d : Rec) → i < length rs → Laid out i at o

@@ -60,7 +60,7 @@ same-length c =
     sym (c .before .before .before .before .before .before .before .before .mac-commands-len .ensures) ∙ ap toldBuild (c .before .before .before .before .before .before .answer .given .1) in
     let w = length-is-written L (slotsOf s) n (slots-full (a .rules) s) e in
     ap length (c .before .before .write-all .ensures)
-    ∙ over-length (a .out .now) (encode (map cmdOf (wholeSlots s))) (omega (arith, ap (λ (l : List Cmd). length (encode l)) (cmds-of-slots s)))
+    ∙ over-length (a .out .now) 0 (encode (map cmdOf (wholeSlots s))) (omega (arith, ap (λ (l : List Cmd). length (encode l)) (cmds-of-slots s)))
 
 returns-2 : tie.Need-returns-2
 returns-2 c =
