@@ -2,6 +2,7 @@ pub mod Cases
 pub mod Commands
 pub mod Determined
 pub mod Laws
+pub mod Onward
 pub mod Ownership
 pub mod Parts
 pub mod Steps

@@ -12,13 +12,10 @@ use lib.Seq.{drop-cons, drop-drop, length-take-le}
 use borrow.Author.Tests.{le-leb, lt-leb}
 use Rattle.table.specs.Answers.{Answer, given, refused}
 use Rattle.walk.specs.Ownership.{Ends, nothing-left, no-cid, cut-short}
+use Rattle.walk.specs.Lanes.{more, Leads}
 use Rattle.walk.specs.Step.{Found, ended, command, stopped, firstOf, firstMove, foundAt, Heading, heading, inNumbers, stepAt, tally, tallyFrom}
 use Rattle.walk.specs.Walk.{Rule, Cmd, Ending, end, stop, placeOf, Walk, finish, after, walkFrom, size}
 use Rattle.walk.proofs.Laws.{ends-at, walk-ends, walk-command}
-
--- one command more
-abbrev pub more : ℕ → Answer Ending × ℕ → Answer Ending × ℕ
-more n a = (a .0, n + a .1)
 
 -- the walk from an offset, told from the step there and the walk from the next
 abbrev pub tallyAfter : Rule → List ℕ → ℕ → Answer (Found Heading) → Answer Ending × ℕ
@@ -185,20 +182,31 @@ module _ (L : Rule) (s : List ℕ) where
           ∙ ap (more 1) (sym (tally-in (g .fits) refl))
           ∙ sym (ap (λ (a : Answer (Found Cmd)). tallyAfter L s at (inNumbers a)) (found-goes g))
 
-  -- ---- the walk by steps: from `from` on it is the walk from `at`, and `count` commands more
+  -- ---- the walk by steps
 
-  pub steps-begin : (from : ℕ) → tallyFrom L s from ≡ more 0 (tallyFrom L s from)
-  steps-begin from = ap (λ (n : ℕ). (tallyFrom L s from .0, n)) (sym (zero-add (tallyFrom L s from .1)))
+  pub leads-nowhere : (from : ℕ) → Leads L s from 0 from
+  leads-nowhere from = record {
+    same = ap (λ (n : ℕ). (tallyFrom L s from .0, n)) (sym (zero-add (tallyFrom L s from .1)));
+    apart = omega arith;
+  }
 
-  module _ (from at count : ℕ) (inv : tallyFrom L s from ≡ more count (tallyFrom L s at)) where
-    pub steps-go : {h : Heading} {next : ℕ} → stepAt L s at ≡ given (command h next) → tallyFrom L s from ≡ more (count + 1) (tallyFrom L s next)
-    steps-go {h} {next} e =
-        inv ∙ ap (more count) (tally-step at ∙ ap (tallyAfter L s at) e)
-        ∙ ap (λ (n : ℕ). (tallyFrom L s next .0, n)) (sym (add-assoc count 1 (tallyFrom L s next .1)))
+  pub leads-behind : (at : ℕ) {h : Heading} {next : ℕ} → stepAt L s at ≡ given (command h next) → Leads L s at 1 next
+  leads-behind at e = let m = step-on at e in record { same = tally-step at ∙ ap (tallyAfter L s at) e; apart = omega arith }
 
-    pub steps-end : {x : Answer (Found Heading)} (a : Answer Ending) → stepAt L s at ≡ x → tallyAfter L s at x ≡ (a, 0) → (a, count) ≡ tallyFrom L s from
-    steps-end a e f =
-        sym (inv ∙ ap (more count) (tally-step at ∙ ap (tallyAfter L s at) e ∙ f) ∙ ap (λ (n : ℕ). (a, n)) (add-zero count))
+  pub leads-on : {from m at n to : ℕ} → Leads L s from m at → Leads L s at n to → Leads L s from (m + n) to
+  leads-on {m = m} {n = n} {to = to} p q = record {
+    same = p .same ∙ ap (more m) (q .same) ∙ ap (λ (k : ℕ). (tallyFrom L s to .0, k)) (sym (add-assoc m n (tallyFrom L s to .1)));
+    apart = omega arith;
+  }
+
+  -- where one part comes to the place at which another begins
+  pub leads-over : {from m at place n to : ℕ} → Leads L s from m at → at ≡ place → Leads L s place n to → Leads L s from (m + n) to
+  leads-over {n = n} {to = to} p e q = leads-on p (subst (λ (k : ℕ). Leads L s k n to) (sym e) q)
+
+  pub leads-to-end : {from count at : ℕ} {x : Answer (Found Heading)} (a : Answer Ending) → Leads L s from count at
+      → stepAt L s at ≡ x → tallyAfter L s at x ≡ (a, 0) → (a, count) ≡ tallyFrom L s from
+  leads-to-end {count = count} {at = at} a l e f =
+      sym (l .same ∙ ap (more count) (tally-step at ∙ ap (tallyAfter L s at) e ∙ f) ∙ ap (λ (n : ℕ). (a, n)) (add-zero count))
 
   pub from-start : tallyFrom L s 0 ≡ tally (walkFrom L 0 s)
   from-start = tally-in (omega arith) refl

@@ -1,6 +1,7 @@
 pub mod Cases
 pub mod Chooser
 pub mod Command
+pub mod Lanes
 pub mod Ownership
 pub mod Part
 pub mod Step

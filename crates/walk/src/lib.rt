@@ -1,6 +1,7 @@
 // A stream of MAC commands, taken apart: one step, the whole walk, and where in a frame the stream is.
 pub mod chooser;
 pub mod command;
+mod lanes;
 pub mod step;
 pub mod whole;
 

@@ -1,3 +1,4 @@
+use crate::lanes::in_lanes;
 use crate::step::Step;
 use crate::step::step_at;
 use table::Refusal;
@@ -26,8 +27,9 @@ pub struct WalkEnd {
 pub fn walk_from(rules: Rules, stream: &[u8], from: usize) -> WalkEnd
     ensures { λ r. ⌜ toldWalk r ≡ tallyFrom (lengthOf rules) (now (stream .entry)) from ⌝ }
 {
-    let mut at = from;
-    let mut count: usize = 0;
+    let front = in_lanes(rules, stream, from);
+    let mut at = front.at;
+    let mut count = front.count;
     loop {
         let found = step_at(rules, stream, at);
         match found {

@@ -1,25 +1,28 @@
 -- `walk_from` meets its contract. The loop's invariant: the walk from `from` is that from `at`, and `count` commands more. The measure
 -- is what is left of the stream. Assumes nothing.
-use Prim.Native.Nat.{_-_, _≤_}
-use mathlib.Core.Path.{_≡_, refl, sym, ap, _∙_}
+use Prim.Native.Nat.{_-_}
+use mathlib.Core.Path.{refl, sym, ap, _∙_}
 use native.Mathlib.Omega.{arith}
 use lib.ListN.{length}
 use Rattle.table.specs.Table.{lengthOf}
-use Rattle.walk.specs.Step.{tallyFrom}
+use Rattle.walk.specs.Lanes.{Leads}
 use Rattle.walk.specs.Told.{toldStep}
-use Rattle.walk.proofs.Steps.{more, step-on, steps-begin, steps-go, steps-end}
+use Rattle.walk.proofs.Steps.{step-on, leads-behind, leads-on, leads-to-end}
 use borrow.Author.Needs.{needs}
 use Rattle.walk.proofs.whole.walk_from.Statement.{statement}
 use Rattle.walk.proofs.whole.walk_from.Tie as tie
 
 abbrev Inv-loop : tie.InvT-loop
-Inv-loop rules stream from at₀ count₀ at count = (count ≤ at) × (tallyFrom (lengthOf rules) stream from ≡ more count (tallyFrom (lengthOf rules) stream at))
+Inv-loop rules stream from at₀ count₀ at count = Leads (lengthOf rules) stream from count at
 
 abbrev μ-loop : tie.MeasureT-loop
 μ-loop rules stream from at₀ count₀ at count = length stream - at
 
+in-lanes-requires : tie.Need-in-lanes-requires Inv-loop μ-loop
+in-lanes-requires c κs = search needs
+
 loop-holds : tie.Need-loop-holds Inv-loop μ-loop
-loop-holds c = (omega arith, steps-begin _ _ _)
+loop-holds c = c .in-lanes .ensures
 
 step-at-requires : tie.Need-step-at-requires Inv-loop μ-loop
 step-at-requires c κs = search needs
@@ -36,8 +39,7 @@ loop-less c = let m = step-on _ _ _ (sym (c .before .before .before .step-at .en
 loop-again : tie.Need-loop-again Inv-loop μ-loop
 loop-again c =
     let e = sym (c .before .before .before .step-at .ensures) ∙ ap toldStep (c .before .found .given .1) in
-    let m = step-on _ _ _ e in
-    (omega arith, steps-go _ _ _ _ _ (c .before .before .before .before .loop .inv .1) e)
+    leads-on _ _ (c .before .before .before .before .loop .inv) (leads-behind _ _ _ e)
 
 enum-told : tie.Need-enum-told Inv-loop μ-loop
 enum-told c = search needs
@@ -49,13 +51,13 @@ enum-known-found-3 : tie.Need-enum-known-found-3 Inv-loop μ-loop
 enum-known-found-3 c = search needs
 
 returns : tie.Need-returns Inv-loop μ-loop
-returns c = steps-end _ _ _ _ _ (c .before .before .before .loop .inv .1) _ (sym (c .before .before .step-at .ensures) ∙ ap toldStep (c .enum-told .given .1)) refl
+returns c = leads-to-end _ _ _ (c .before .before .before .loop .inv) (sym (c .before .before .step-at .ensures) ∙ ap toldStep (c .enum-told .given .1)) refl
 
 returns-2 : tie.Need-returns-2 Inv-loop μ-loop
-returns-2 c = steps-end _ _ _ _ _ (c .before .before .before .before .loop .inv .1) _ (sym (c .before .before .before .step-at .ensures) ∙ ap toldStep (c .before .found2 .given .1)) refl
+returns-2 c = leads-to-end _ _ _ (c .before .before .before .before .loop .inv) (sym (c .before .before .before .step-at .ensures) ∙ ap toldStep (c .before .found2 .given .1)) refl
 
 returns-3 : tie.Need-returns-3 Inv-loop μ-loop
-returns-3 c = steps-end _ _ _ _ _ (c .before .before .before .before .loop .inv .1) _ (sym (c .before .before .before .step-at .ensures) ∙ ap toldStep (c .before .found3 .given .1)) refl
+returns-3 c = leads-to-end _ _ _ (c .before .before .before .before .loop .inv) (sym (c .before .before .before .step-at .ensures) ∙ ap toldStep (c .before .found3 .given .1)) refl
 
 pub walk-from-spec : {M : Type 1} → statement M
 walk-from-spec =
@@ -63,6 +65,7 @@ walk-from-spec =
     (tie.spec
     Inv-loop
     μ-loop
+    in-lanes-requires
     loop-holds
     step-at-requires
     enum-known-found
