@@ -27,7 +27,7 @@ use std::time::Instant;
 
 const USAGE: &str = "usage: bench COMMAND
   table SEED ROUNDS            times every case, each side ROUNDS times, and prints the least
-  trials SEED ROUNDS           times other ways to read every field
+  trials SEED ROUNDS           times other ways to count and to read every field
   cases SEED                   each case's name and the number of its commands
   one SEED CASE SIDE TIMES     runs a case on one side, `rust` or `rattle`, so many times";
 
@@ -212,16 +212,25 @@ fn table(seed: u64, rounds: usize) {
     }
 }
 
+/// The sides of a case, and the other ways to do its work.
+fn ways(work: Work) -> Vec<(&'static str, fn(&[u8]) -> u64)> {
+    let (rust, rattle, others): (_, _, &[_]) = match work {
+        Work::Count => (original::count as fn(&[u8]) -> u64, port::count as fn(&[u8]) -> u64, &trials::COUNTS),
+        Work::Fields => (original::fields, port::fields, &trials::FIELDS),
+        Work::Build | Work::Resend => return Vec::new(),
+    };
+    [&[("Rust", rust), ("Rattle", rattle)], others].concat()
+}
+
 fn trials(seed: u64, rounds: usize) {
-    let mut ways: Vec<(&str, fn(&[u8]) -> u64)> = vec![("Rust", original::fields), ("Rattle", port::fields)];
-    ways.extend(trials::ALL);
-    print!("{:<7} {:>15}", "order", "size");
-    ways.iter().for_each(|(name, _)| print!(" {name:>16}"));
-    println!();
-    for case in Case::all().into_iter().filter(|case| matches!(case.work, Work::Fields)) {
+    for case in Case::all() {
+        let ways = ways(case.work);
+        if ways.is_empty() {
+            continue;
+        }
         let streams = case.streams(seed);
         for stream in streams.each() {
-            ways.iter().for_each(|(_, way)| same(original::fields(stream), way(stream), stream));
+            ways.iter().for_each(|(_, way)| same(ways[0].1(stream), way(stream), stream));
         }
         let mut least = vec![f64::INFINITY; ways.len()];
         for _ in 0..rounds {
@@ -229,8 +238,10 @@ fn trials(seed: u64, rounds: usize) {
                 *least = least.min(nanoseconds(&|| each(streams, *way)));
             }
         }
-        print!("{:<7} {:>15}", case.order.name(), format!("{} bytes", case.size));
-        least.iter().for_each(|time| print!(" {:>9.2} ({:.2})", time / streams.commands as f64, time / least[0]));
+        print!("{:<7} {:<7} {:>15}", case.work.name(), case.order.name(), format!("{} bytes", case.size));
+        for ((name, _), time) in ways.iter().zip(&least) {
+            print!("  {name} {:.2} ({:.2})", time / streams.commands as f64, time / least[0]);
+        }
         println!();
     }
 }

@@ -1,5 +1,5 @@
-//! Other ways to read every field of every command, to see what this processor allows: loops over the port's table with no test of a bound
-//! that the table's length has not settled. They are measured and not shipped; docs/SPEED.md says what they tell.
+//! Other ways to count commands and to read every field of them, to see what this processor allows. Those that read fields have no test of
+//! a bound that the table's length has not settled. They are measured and not shipped; docs/SPEED.md says what they tell.
 
 /// The lengths of the commands that are sent down, four bits a CID, 15 for a byte that is none.
 const DOWN: u64 = 0xFF5F_F411_5041_42FF;
@@ -9,8 +9,52 @@ static POWERS: [u8; 16] = [8, 10, 12, 13, 14, 16, 18, 20, 21, 24, 26, 27, 29, 30
 
 const MODULUS: u64 = 1 << 32;
 
-pub const ALL: [(&str, fn(&[u8]) -> u64); 4] =
+pub const COUNTS: [(&str, fn(&[u8]) -> u64); 2] = [("match", count_by_match), ("one lane", count_in_one_lane)];
+
+pub const FIELDS: [(&str, fn(&[u8]) -> u64); 4] =
     [("jump", jump), ("ahead", ahead), ("functions", functions), ("no branch", no_branch)];
+
+/// The length by a `match` on the CID, which is compiled to a jump.
+#[inline(never)]
+fn count_by_match(s: &[u8]) -> u64 {
+    let (mut at, mut count) = (0, 0);
+    while at < s.len() {
+        let n = match s[at] {
+            0x02 => 2,
+            0x03 => 4,
+            0x04 => 1,
+            0x05 => 4,
+            0x06 => 0,
+            0x07 => 5,
+            0x08 => 1,
+            0x09 => 1,
+            0x0A => 4,
+            0x0D => 5,
+            _ => break,
+        };
+        let body = at + 1;
+        if n > s.len() - body {
+            break;
+        }
+        at = body + n;
+        count += 1;
+    }
+    count
+}
+
+/// The length by the port's table, each step behind the one before.
+#[inline(never)]
+fn count_in_one_lane(s: &[u8]) -> u64 {
+    let (mut at, mut count) = (0, 0);
+    loop {
+        let (cid, next) = step(s, at);
+        if cid == 255 {
+            return count;
+        }
+        at = next;
+        count += 1;
+    }
+}
 
 fn length(cid: u8) -> usize {
     if cid < 16 {
