@@ -5,7 +5,6 @@ use crate::step::step_at;
 use table::Length;
 use table::Rules;
 ghost use Prim.Native.Nat.{_+_, _≤_};
-ghost use mathlib.Core.Path.{_≡_};
 ghost use lib.ListN.{length};
 ghost use Rattle.table.specs.Table.{lengthOf};
 ghost use Rattle.walk.specs.Lanes.{Leads, Within, Comes};
