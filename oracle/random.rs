@@ -21,6 +21,10 @@ pub fn streams_and_others(batch: &mut Batch, seed: u64, count: usize) {
             small(batch, &mut rng);
         }
     }
+    for _ in 0..count / 1000 {
+        let length = 90 + rng.below(500);
+        long_streams(batch, &mut rng, length);
+    }
 }
 
 /// How long a stream is: mostly as in FOpts, often as in a frame, seldom longer.
@@ -33,8 +37,16 @@ fn room(rng: &mut Rng) -> usize {
     }
 }
 
+/// What the payloads of a stream are made of.
+#[derive(Clone, Copy, PartialEq)]
+enum Payloads {
+    Any,
+    /// CIDs of the direction, so that commands seem to stand where none does.
+    Cids,
+}
+
 /// Whole commands of a direction, as many as fit.
-fn commands(rng: &mut Rng, direction: Direction, room: usize) -> Vec<u8> {
+fn commands(rng: &mut Rng, direction: Direction, room: usize, payloads: Payloads) -> Vec<u8> {
     let all: Vec<_> = direction.commands().collect();
     let mut stream = Vec::new();
     loop {
@@ -43,19 +55,45 @@ fn commands(rng: &mut Rng, direction: Direction, room: usize) -> Vec<u8> {
             return stream;
         }
         stream.push(table::cid(k));
-        stream.extend(rng.bytes(table::len(k)));
+        for _ in 0..table::len(k) {
+            stream.push(match payloads {
+                Payloads::Any => rng.byte(),
+                Payloads::Cids => table::cid(rng.pick(&all)),
+            });
+        }
+    }
+}
+
+fn walk_of(direction: Direction) -> u8 {
+    match direction {
+        Direction::Down => entries::WALK_DOWN,
+        Direction::Up => entries::WALK_UP,
+    }
+}
+
+/// Streams of each direction that are long enough to be walked in more than one place at once: whole, cut, and with a byte damaged; and
+/// one of the longest command's CID alone, in which a command seems to stand at each byte.
+pub fn long_streams(batch: &mut Batch, rng: &mut Rng, length: usize) {
+    for direction in DIRECTIONS {
+        let longest = direction.commands().max_by_key(|k| table::len(*k)).expect("a direction has commands");
+        batch.ask(walk_of(direction), &vec![table::cid(longest); length]);
+        for payloads in [Payloads::Any, Payloads::Cids] {
+            let mut stream = commands(rng, direction, length, payloads);
+            batch.ask(walk_of(direction), &stream);
+            batch.ask(walk_of(direction), &stream[..rng.below(stream.len())]);
+            let at = rng.below(stream.len());
+            stream[at] = rng.byte();
+            batch.ask(walk_of(direction), &stream);
+        }
     }
 }
 
 /// Streams of one kind; how many.
 fn streams(batch: &mut Batch, rng: &mut Rng) -> usize {
     let direction = rng.pick(&DIRECTIONS);
-    let walk = match direction {
-        Direction::Down => entries::WALK_DOWN,
-        Direction::Up => entries::WALK_UP,
-    };
+    let walk = walk_of(direction);
     let length = room(rng);
-    let mut stream = commands(rng, direction, length);
+    let mut stream = commands(rng, direction, length, Payloads::Any);
     match rng.below(8) {
         // As it is.
         0 | 1 => batch.ask(walk, &stream),
@@ -82,7 +120,7 @@ fn streams(batch: &mut Batch, rng: &mut Rng) -> usize {
         6 => {
             let other = rng.pick(&DIRECTIONS);
             let length = room(rng);
-            let mut front = commands(rng, other, length);
+            let mut front = commands(rng, other, length, Payloads::Any);
             if rng.once_in(2) {
                 front.truncate(rng.below(front.len() + 1));
             }
