@@ -22,7 +22,7 @@ pub fn streams_and_others(batch: &mut Batch, seed: u64, count: usize) {
         }
     }
     for _ in 0..count / 1000 {
-        let length = 90 + rng.below(500);
+        let length = 186 + rng.below(500);
         long_streams(batch, &mut rng, length);
     }
 }

@@ -29,8 +29,8 @@ enum Onward {
     Nowhere,
 }
 
-// A shorter stream is walked before the places for three lanes are found.
-const LONG: usize = 96;
+// In a shorter stream, to find the places for three lanes costs more than they save.
+const LONG: usize = 192;
 
 // Of so many offsets in a row, one is a command's, unless the walk has stopped before: no command has more bytes.
 const LONGEST: usize = 6;
