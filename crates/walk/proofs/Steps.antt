@@ -9,8 +9,9 @@ use native.Mathlib.Numerals.{add-one, one-add}
 use native.Mathlib.Omega.{arith}
 use lib.ListN.{length, getD, take, drop, length-drop, take-append-drop, drop-of-length-le}
 use lib.Seq.{drop-cons, drop-drop, length-take-le}
-use borrow.Author.Tests.{le-leb, lt-leb}
-use Rattle.table.specs.Answers.{Answer, given, refused}
+use borrow.Author.Tests.{le-leb, lt-leb, lt-ltb, le-ltb}
+use Rattle.table.specs.Answers.{Answer, given, refused, accepted}
+use Rattle.walk.specs.Command.{StandsAt, roomFor}
 use Rattle.walk.specs.Ownership.{Ends, nothing-left, no-cid, cut-short}
 use Rattle.walk.specs.Lanes.{more, Leads}
 use Rattle.walk.specs.Step.{Found, ended, command, stopped, firstOf, firstMove, foundAt, Heading, heading, inNumbers, stepAt, tally, tallyFrom}
@@ -113,13 +114,16 @@ module _ (L : Rule) (s : List ℕ) where
     here-by (no h) (yes g) = ends _ g (ends-here g (omega arith))
     here-by (no h) (no g) = past (omega arith)
 
+    pub found-end : at ≤ length s → length s ≤ at → foundAt L s at ≡ given ended
+    found-end h g = found-ends h (ends-here h g)
+
     -- ---- the step, in numbers
 
     pub step-past : length s < at → stepAt L s at ≡ refused 5
     step-past h = ap inNumbers (found-past h)
 
     pub step-end : at ≤ length s → length s ≤ at → stepAt L s at ≡ given ended
-    step-end h g = ap inNumbers (found-ends h (ends-here h g))
+    step-end h g = ap inNumbers (found-end h g)
 
     pub step-unknown : at < length s → L (getD s at 0) ≡ none → stepAt L s at ≡ given (stopped 1 at)
     step-unknown h e = ap inNumbers (found-ends (omega arith) (unknown-here h e))
@@ -132,6 +136,34 @@ module _ (L : Rule) (s : List ℕ) where
     step-command n h e g =
         ap inNumbers (found-goes (command-here n h e g))
         ∙ ap (λ (k : ℕ). given (command (heading (getD s at 0) k) (at + 1 + n))) (length-take-le n (drop (at + 1) s) (simp length-drop g))
+
+    -- ---- by whether the payload is all there
+
+    stands-by : at < length s → (l : Option ℕ) → L (getD s at 0) ≡ l → roomFor l (length s - at) ≡ accepted → StandsAt L s at (getD s at 0)
+    stands-by h none e p = let no-way : _≡_ {A = ℕ} 0 1 = cc in absurd (omega arith)
+    stands-by h (some n) e p = by (decLt n (length s - at))
+      where
+        by : Dec (n < length s - at) → StandsAt L s at (getD s at 0)
+        by (yes g) = record { len = n; next = at + 1 + n; step = step-command n h e (omega arith) }
+        by (no g) = let q = simp (le-ltb n (length s - at) (omega arith)) at p in let no-way : _≡_ {A = ℕ} 0 1 = cc in absurd (omega arith)
+
+    pub room-stands : at < length s → roomFor (L (getD s at 0)) (length s - at) ≡ accepted → StandsAt L s at (getD s at 0)
+    room-stands h p = stands-by h (L (getD s at 0)) refl p
+
+    stops-by : (k : ℕ) → at < length s → (l : Option ℕ) → L (getD s at 0) ≡ l → roomFor l (length s - at) ≡ refused k → foundAt L s at ≡ given (stopped k at)
+    stops-by k h none e p =
+        let k-is : 1 ≡ k = cc in found-ends (omega arith) (unknown-here h e) ∙ ap (λ (m : ℕ). given (stopped m at)) k-is
+    stops-by k h (some n) e p = by (decLt n (length s - at))
+      where
+        by : Dec (n < length s - at) → foundAt L s at ≡ given (stopped k at)
+        by (yes g) = let q = simp (lt-ltb n (length s - at) g) at p in let no-way : _≡_ {A = ℕ} 0 1 = cc in absurd (omega arith)
+        by (no g) =
+            let q = simp (le-ltb n (length s - at) (omega arith)) at p in
+            let k-is : 2 ≡ k = cc in
+            found-ends (omega arith) (short-here n h e (omega arith)) ∙ ap (λ (m : ℕ). given (stopped m at)) k-is
+
+    pub room-stops : (k : ℕ) → at < length s → roomFor (L (getD s at 0)) (length s - at) ≡ refused k → foundAt L s at ≡ given (stopped k at)
+    room-stops k h p = stops-by k h (L (getD s at 0)) refl p
 
   pub here : (at : ℕ) → Here at
   here at = here-by (decLt at (length s)) (decLe at (length s))

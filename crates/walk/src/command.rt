@@ -1,6 +1,4 @@
 // The command at an offset of a stream, as a value of its own type.
-use crate::step::Step;
-use crate::step::step_at;
 use payloads::DevStatusAnsPayload;
 use payloads::DevStatusReqPayload;
 use payloads::DeviceTimeAnsPayload;
@@ -23,17 +21,18 @@ use payloads::RXTimingSetupReqPayload;
 use payloads::TXParamSetupAnsPayload;
 use payloads::TXParamSetupReqPayload;
 use payloads::UplinkMacCommand;
-use table::Direction;
 use table::Refusal;
-use table::Rules;
+use table::Verdict;
 ghost use Prim.Native.Nat.{_+_, _≤_};
 ghost use mathlib.Core.List.{[], _∷_};
+ghost use mathlib.Core.Option.{some};
 ghost use mathlib.Core.Path.{_≡_};
 ghost use lib.ListN.{length, take, drop};
 ghost use Rattle.table.specs.Answers.{given};
 ghost use Rattle.table.specs.Table.{lengthOf};
+ghost use Rattle.table.specs.Told.{toldVerdict};
 ghost use Rattle.payloads.specs.Commands.{sentUp, sentDown};
-ghost use Rattle.walk.specs.Command.{uplinkCmd, downlinkCmd, StandsAt};
+ghost use Rattle.walk.specs.Command.{uplinkCmd, downlinkCmd, StandsAt, roomFor};
 ghost use Rattle.walk.specs.Step.{command, foundAt};
 ghost use Rattle.walk.specs.Told.{toldUplinkStep, toldDownlinkStep};
 ghost use Rattle.walk.specs.Walk.{size};
@@ -89,9 +88,60 @@ fn five_at(stream: &[u8], at: usize) -> Five
     )
 }
 
+// ---- Whether a command is all there, where so many bytes are left from its CID on.
+
+// Of the bytes left, one is the CID.
+fn fits(len: usize, left: usize) -> Verdict
+    ensures { λ r. ⌜ toldVerdict r ≡ roomFor (some len) left ⌝ }
+{
+    if len < left {
+        Verdict::Accepted
+    } else {
+        Verdict::Refused(Refusal::TruncatedPayload)
+    }
+}
+
+// Each length is a constant in its CID's arm, and not read from the walk's table: so the compiler makes one jump of this `match` and of those
+// behind it, and where the processor foresees that jump, it waits for no length.
+fn uplink_fits(cid: u8, left: usize) -> Verdict
+    ensures { λ r. ⌜ toldVerdict r ≡ roomFor (lengthOf sentUp cid) left ⌝ }
+{
+    match cid {
+        0x02 => fits(0, left),
+        0x03 => fits(1, left),
+        0x04 => fits(0, left),
+        0x05 => fits(1, left),
+        0x06 => fits(2, left),
+        0x07 => fits(1, left),
+        0x08 => fits(0, left),
+        0x09 => fits(0, left),
+        0x0A => fits(1, left),
+        0x0D => fits(0, left),
+        _ => Verdict::Refused(Refusal::UnknownMacCommand),
+    }
+}
+
+fn downlink_fits(cid: u8, left: usize) -> Verdict
+    ensures { λ r. ⌜ toldVerdict r ≡ roomFor (lengthOf sentDown cid) left ⌝ }
+{
+    match cid {
+        0x02 => fits(2, left),
+        0x03 => fits(4, left),
+        0x04 => fits(1, left),
+        0x05 => fits(4, left),
+        0x06 => fits(0, left),
+        0x07 => fits(5, left),
+        0x08 => fits(1, left),
+        0x09 => fits(1, left),
+        0x0A => fits(4, left),
+        0x0D => fits(5, left),
+        _ => Verdict::Refused(Refusal::UnknownMacCommand),
+    }
+}
+
 // ---- Up.
 
-// The command that a step gave. Its length is known to the step, so no arm tests it again.
+// The command with this CID. It is all there, so no arm tests that again.
 fn uplink_command(stream: &[u8], at: usize, cid: u8) -> UplinkMacCommand
     requires { ⌜ StandsAt (lengthOf sentUp) (now stream) at cid ⌝ }
     ensures { λ r. ⌜ foundAt (lengthOf sentUp) (now (stream .entry)) at ≡ given (command (uplinkCmd r) (at + size (uplinkCmd r))) ⌝ }
@@ -130,32 +180,31 @@ fn uplink_command(stream: &[u8], at: usize, cid: u8) -> UplinkMacCommand
 pub fn uplink_at(stream: &[u8], at: usize) -> UplinkStep
     ensures { λ r. ⌜ toldUplinkStep r ≡ foundAt (lengthOf sentUp) (now (stream .entry)) at ⌝ }
 {
-    let rules = Rules {
-        direction: Direction::Up,
-    };
-    let found = step_at(rules, stream, at);
-    match found {
-        Step::Command {
-            cid,
-            len: _,
-            next: _,
-        } => {
+    if stream.len() <= at {
+        if stream.len() < at {
+            return UplinkStep::Refused(Refusal::InvalidIndex);
+        }
+        return UplinkStep::End;
+    }
+    let cid = stream[at];
+    let left = stream.len() - at;
+    let verdict = uplink_fits(cid, left);
+    match verdict {
+        Verdict::Accepted => {
             let command = uplink_command(stream, at, cid);
-            // Its own length and not the step's: where the processor foresees the arm, it knows the next offset too.
+            // A constant in each arm: where the processor foresees the arm, it knows the next offset too.
             let len = command.len();
             let body = at + 1;
             let behind = body + len;
             UplinkStep::Command(command, behind)
         }
-        Step::End => UplinkStep::End,
-        Step::Stop { reason, at: place } => UplinkStep::Stop { reason, at: place },
-        Step::Refused(reason) => UplinkStep::Refused(reason),
+        Verdict::Refused(reason) => UplinkStep::Stop { reason, at },
     }
 }
 
 // ---- Down.
 
-// The command that a step gave. Its length is known to the step, so no arm tests it again.
+// The command with this CID. It is all there, so no arm tests that again.
 fn downlink_command(stream: &[u8], at: usize, cid: u8) -> DownlinkMacCommand
     requires { ⌜ StandsAt (lengthOf sentDown) (now stream) at cid ⌝ }
     ensures { λ r. ⌜ foundAt (lengthOf sentDown) (now (stream .entry)) at ≡ given (command (downlinkCmd r) (at + size (downlinkCmd r))) ⌝ }
@@ -206,25 +255,24 @@ fn downlink_command(stream: &[u8], at: usize, cid: u8) -> DownlinkMacCommand
 pub fn downlink_at(stream: &[u8], at: usize) -> DownlinkStep
     ensures { λ r. ⌜ toldDownlinkStep r ≡ foundAt (lengthOf sentDown) (now (stream .entry)) at ⌝ }
 {
-    let rules = Rules {
-        direction: Direction::Down,
-    };
-    let found = step_at(rules, stream, at);
-    match found {
-        Step::Command {
-            cid,
-            len: _,
-            next: _,
-        } => {
+    if stream.len() <= at {
+        if stream.len() < at {
+            return DownlinkStep::Refused(Refusal::InvalidIndex);
+        }
+        return DownlinkStep::End;
+    }
+    let cid = stream[at];
+    let left = stream.len() - at;
+    let verdict = downlink_fits(cid, left);
+    match verdict {
+        Verdict::Accepted => {
             let command = downlink_command(stream, at, cid);
-            // Its own length and not the step's: where the processor foresees the arm, it knows the next offset too.
+            // A constant in each arm: where the processor foresees the arm, it knows the next offset too.
             let len = command.len();
             let body = at + 1;
             let behind = body + len;
             DownlinkStep::Command(command, behind)
         }
-        Step::End => DownlinkStep::End,
-        Step::Stop { reason, at: place } => DownlinkStep::Stop { reason, at: place },
-        Step::Refused(reason) => DownlinkStep::Refused(reason),
+        Verdict::Refused(reason) => DownlinkStep::Stop { reason, at },
     }
 }

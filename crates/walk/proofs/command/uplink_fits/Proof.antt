@@ -1,0 +1,107 @@
+-- `uplink_fits` meets its contract: each arm by its row, the last as no other row is left. Assumes nothing.
+use Prim.Native.Nat.{ℕ}
+use mathlib.Core.Option.{Option, some}
+use mathlib.Core.Path.{_≡_, refl, sym, ap}
+use Rattle.table.specs.Answers.{Consent}
+use Rattle.table.specs.declared.rules.Direction.the-variants.{Up}
+use Rattle.table.specs.Table.{rows, lengthOf}
+use Rattle.payloads.specs.Commands.{sentUp}
+use Rattle.payloads.proofs.Rows.{missing}
+use Rattle.walk.specs.Command.{roomFor}
+use Rattle.walk.proofs.Commands.{row-room}
+use borrow.Author.Needs.{needs}
+use Rattle.walk.proofs.command.uplink_fits.Statement.{statement}
+use Rattle.walk.proofs.command.uplink_fits.Tie as tie
+
+row-in : (c : tie.Start) (k n : ℕ) → c .args .cid ≡ k → lengthOf sentUp k ≡ some n → {v : Consent} → v ≡ roomFor (some n) (c .args .left)
+    → v ≡ roomFor (lengthOf sentUp (c .args .cid)) (c .args .left)
+row-in c k n key rule p = row-room (lengthOf sentUp) (c .args .cid) k n (c .args .left) key rule p
+
+fits-requires : tie.Need-fits-requires
+fits-requires c κs = search needs
+
+fits-requires-2 : tie.Need-fits-requires-2
+fits-requires-2 c κs = search needs
+
+fits-requires-3 : tie.Need-fits-requires-3
+fits-requires-3 c κs = search needs
+
+fits-requires-4 : tie.Need-fits-requires-4
+fits-requires-4 c κs = search needs
+
+fits-requires-5 : tie.Need-fits-requires-5
+fits-requires-5 c κs = search needs
+
+fits-requires-6 : tie.Need-fits-requires-6
+fits-requires-6 c κs = search needs
+
+fits-requires-7 : tie.Need-fits-requires-7
+fits-requires-7 c κs = search needs
+
+fits-requires-8 : tie.Need-fits-requires-8
+fits-requires-8 c κs = search needs
+
+fits-requires-9 : tie.Need-fits-requires-9
+fits-requires-9 c κs = search needs
+
+fits-requires-10 : tie.Need-fits-requires-10
+fits-requires-10 c κs = search needs
+
+returns : tie.Need-returns
+returns c = row-in (c .before .before) 0x02 0 (c .before .match .keys1) refl (c .fits2 .ensures)
+
+returns-2 : tie.Need-returns-2
+returns-2 c = row-in (c .before .before) 0x03 1 (c .before .match .keys2) refl (c .fits3 .ensures)
+
+returns-3 : tie.Need-returns-3
+returns-3 c = row-in (c .before .before) 0x04 0 (c .before .match .keys3) refl (c .fits4 .ensures)
+
+returns-4 : tie.Need-returns-4
+returns-4 c = row-in (c .before .before) 0x05 1 (c .before .match .keys4) refl (c .fits5 .ensures)
+
+returns-5 : tie.Need-returns-5
+returns-5 c = row-in (c .before .before) 0x06 2 (c .before .match .keys5) refl (c .fits6 .ensures)
+
+returns-6 : tie.Need-returns-6
+returns-6 c = row-in (c .before .before) 0x07 1 (c .before .match .keys6) refl (c .fits7 .ensures)
+
+returns-7 : tie.Need-returns-7
+returns-7 c = row-in (c .before .before) 0x08 0 (c .before .match .keys7) refl (c .fits8 .ensures)
+
+returns-8 : tie.Need-returns-8
+returns-8 c = row-in (c .before .before) 0x09 0 (c .before .match .keys8) refl (c .fits9 .ensures)
+
+returns-9 : tie.Need-returns-9
+returns-9 c = row-in (c .before .before) 0x0A 1 (c .before .match .keys9) refl (c .fits10 .ensures)
+
+returns-10 : tie.Need-returns-10
+returns-10 c = row-in (c .before .before) 0x0D 0 (c .before .match .keys10) refl (c .fits11 .ensures)
+
+returns-11 : tie.Need-returns-11
+returns-11 c = ap (λ (l : Option ℕ). roomFor l (c .before .args .left)) (sym (missing rows Up (c .before .args .cid) (c .match .rest)))
+
+pub uplink-fits-spec : {M : Type 1} → statement M
+uplink-fits-spec =
+    tie.close
+    (tie.spec
+    fits-requires
+    fits-requires-2
+    fits-requires-3
+    fits-requires-4
+    fits-requires-5
+    fits-requires-6
+    fits-requires-7
+    fits-requires-8
+    fits-requires-9
+    fits-requires-10
+    returns
+    returns-2
+    returns-3
+    returns-4
+    returns-5
+    returns-6
+    returns-7
+    returns-8
+    returns-9
+    returns-10
+    returns-11)
