@@ -11,8 +11,8 @@ const MODULUS: u64 = 1 << 32;
 
 pub const COUNTS: [(&str, fn(&[u8]) -> u64); 2] = [("match", count_by_match), ("one lane", count_in_one_lane)];
 
-pub const FIELDS: [(&str, fn(&[u8]) -> u64); 4] =
-    [("jump", jump), ("ahead", ahead), ("functions", functions), ("no branch", no_branch)];
+pub const FIELDS: [(&str, fn(&[u8]) -> u64); 5] =
+    [("jump", jump), ("arms", arms), ("ahead", ahead), ("functions", functions), ("no branch", no_branch)];
 
 /// The length by a `match` on the CID, which is compiled to a jump.
 #[inline(never)]
@@ -119,7 +119,34 @@ fn jump(s: &[u8]) -> u64 {
     }
 }
 
-/// The same, with the next step made before the jump.
+/// One jump by the CID, with the test of the bytes left in each arm.
+#[inline(never)]
+fn arms(s: &[u8]) -> u64 {
+    let (mut at, mut sum) = (0, 0);
+    while at < s.len() {
+        let left = s.len() - at;
+        let read = |cid, n| if n < left { Some((worth(s, at, cid), n)) } else { None };
+        let found = match s[at] {
+            0x02 => read(0x02, 2),
+            0x03 => read(0x03, 4),
+            0x04 => read(0x04, 1),
+            0x05 => read(0x05, 4),
+            0x06 => read(0x06, 0),
+            0x07 => read(0x07, 5),
+            0x08 => read(0x08, 1),
+            0x09 => read(0x09, 1),
+            0x0A => read(0x0A, 4),
+            0x0D => read(0x0D, 5),
+            _ => None,
+        };
+        let Some((worth, n)) = found else { break };
+        sum = (sum + worth) % MODULUS;
+        at += 1 + n;
+    }
+    sum
+}
+
+/// A step and a jump, with the next step made before the jump.
 #[inline(never)]
 fn ahead(s: &[u8]) -> u64 {
     let (mut at, mut sum) = (0, 0);
