@@ -38,7 +38,7 @@ fn room(rng: &mut Rng) -> usize {
 }
 
 /// What the payloads of a stream are made of.
-#[derive(Clone, Copy, PartialEq)]
+#[derive(Clone, Copy)]
 enum Payloads {
     Any,
     /// CIDs of the direction, so that commands seem to stand where none does.

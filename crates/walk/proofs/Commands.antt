@@ -3,7 +3,7 @@ use Prim.Native.Nat.{ℕ, zero, suc, _+_, _≤_}
 use mathlib.Core.Bool.{Bool, true, false, cond}
 use mathlib.Core.List.{List, [], _∷_, _++_}
 use mathlib.Core.Option.{Option, none, some}
-use mathlib.Core.Path.{_≡_, refl, sym, ap, ap₂, _∙_}
+use mathlib.Core.Path.{_≡_, refl, sym, ap, ap₂, _∙_, subst}
 use native.Mathlib.Nat.{suc-add, add-suc}
 use native.Mathlib.Numerals.{add-one}
 use native.Mathlib.Omega.{arith}
@@ -11,12 +11,12 @@ use lib.Dec.{eqb}
 use lib.ListN.{length, getD, take, drop}
 use lib.Seq.{drop-cons, drop-drop, take-at}
 use borrow.Author.Tests.{eqb-true}
-use Rattle.table.specs.Answers.{Consent, given}
+use Rattle.table.specs.Answers.{Answer, given, refused}
 use Rattle.table.specs.declared.rules.Direction.{Direction}
 use Rattle.table.specs.Table.{Row, lengthIn}
 use Rattle.fields.specs.Lists.{tabulate}
-use Rattle.walk.specs.Command.{StandsAt, roomFor}
-use Rattle.walk.specs.Step.{command, Heading, heading, foundAt}
+use Rattle.walk.specs.Command.{StandsAt}
+use Rattle.walk.specs.Step.{Found, ended, command, stopped, Heading, heading, foundAt, inNumbers}
 use Rattle.walk.specs.Walk.{Rule, Cmd, size}
 use Rattle.walk.proofs.Steps.{Goes, command-told, found-command}
 
@@ -64,10 +64,6 @@ module _ (L : Rule) (s : List ℕ) (at cid : ℕ) (h : StandsAt L s at cid) wher
         told .1 ∙ ap (λ (k : ℕ). given (command (told .0) k)) (stands .behind)
         ∙ ap₂ (λ (c : ℕ) (p : List ℕ). given (command (record { cid = c; body = p }) (at + size (record { cid = c; body = p })))) cid-is body-is
 
--- what a test says of the length that a row gives, it says of the row's CID
-pub row-room : (L : Rule) (cid k n left : ℕ) → cid ≡ k → L k ≡ some n → {v : Consent} → v ≡ roomFor (some n) left → v ≡ roomFor (L cid) left
-row-room L cid k n left key rule p = p ∙ ap (λ (l : Option ℕ). roomFor l left) (sym (ap L key ∙ rule))
-
 -- a command that stands at an offset, with a payload of so many bytes: it ends in the stream, and it is what the step tells
 module _ (L : Rule) (s : List ℕ) (at : ℕ) (c : Cmd) (here : foundAt L s at ≡ given (command c (at + size c))) (len : ℕ) (long : length (c .body) ≡ len) where
   pub ends-in : at + 1 + len ≤ length s
@@ -75,6 +71,22 @@ module _ (L : Rule) (s : List ℕ) (at : ℕ) (c : Cmd) (here : foundAt L s at �
 
   pub ends-there : given (command c (at + 1 + len)) ≡ foundAt L s at
   ends-there = let e : at + size c ≡ at + 1 + len = omega arith in sym (here ∙ ap (λ (k : ℕ). given (command c k)) e)
+
+-- what is no command is told in numbers as it is
+abbrev pub AsTold : Answer (Found Heading) → Answer (Found Cmd) → Type 0
+AsTold (given ended) x = given ended ≡ x
+AsTold (given (command h next)) x = Unit
+AsTold (given (stopped n o)) x = given (stopped n o) ≡ x
+AsTold (refused n) x = refused n ≡ x
+
+as-told : (x : Answer (Found Cmd)) → AsTold (inNumbers x) x
+as-told (given ended) = refl
+as-told (given (command c next)) = tt
+as-told (given (stopped n o)) = refl
+as-told (refused n) = refl
+
+pub no-command : (x : Answer (Found Cmd)) {y : Answer (Found Heading)} → inNumbers x ≡ y → AsTold y x
+no-command x e = subst (λ (y : Answer (Found Heading)). AsTold y x) e (as-told x)
 
 -- ---- the row that is left where no other is
 

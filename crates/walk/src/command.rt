@@ -1,4 +1,6 @@
 // The command at an offset of a stream, as a value of its own type.
+use crate::step::Step;
+use crate::step::step_at;
 use payloads::DevStatusAnsPayload;
 use payloads::DevStatusReqPayload;
 use payloads::DeviceTimeAnsPayload;
@@ -21,7 +23,9 @@ use payloads::RXTimingSetupReqPayload;
 use payloads::TXParamSetupAnsPayload;
 use payloads::TXParamSetupReqPayload;
 use payloads::UplinkMacCommand;
+use table::Direction;
 use table::Refusal;
+use table::Rules;
 use table::Verdict;
 ghost use Prim.Native.Nat.{_+_, _≤_};
 ghost use mathlib.Core.List.{[], _∷_};
@@ -88,60 +92,9 @@ fn five_at(stream: &[u8], at: usize) -> Five
     )
 }
 
-// ---- Whether a command is all there, where so many bytes are left from its CID on.
-
-// Of the bytes left, one is the CID.
-fn fits(len: usize, left: usize) -> Verdict
-    ensures { λ r. ⌜ toldVerdict r ≡ roomFor (some len) left ⌝ }
-{
-    if len < left {
-        Verdict::Accepted
-    } else {
-        Verdict::Refused(Refusal::TruncatedPayload)
-    }
-}
-
-// Each length is a constant in its CID's arm, and not read from the walk's table: so the compiler makes one jump of this `match` and of those
-// behind it, and where the processor foresees that jump, it waits for no length.
-fn uplink_fits(cid: u8, left: usize) -> Verdict
-    ensures { λ r. ⌜ toldVerdict r ≡ roomFor (lengthOf sentUp cid) left ⌝ }
-{
-    match cid {
-        0x02 => fits(0, left),
-        0x03 => fits(1, left),
-        0x04 => fits(0, left),
-        0x05 => fits(1, left),
-        0x06 => fits(2, left),
-        0x07 => fits(1, left),
-        0x08 => fits(0, left),
-        0x09 => fits(0, left),
-        0x0A => fits(1, left),
-        0x0D => fits(0, left),
-        _ => Verdict::Refused(Refusal::UnknownMacCommand),
-    }
-}
-
-fn downlink_fits(cid: u8, left: usize) -> Verdict
-    ensures { λ r. ⌜ toldVerdict r ≡ roomFor (lengthOf sentDown cid) left ⌝ }
-{
-    match cid {
-        0x02 => fits(2, left),
-        0x03 => fits(4, left),
-        0x04 => fits(1, left),
-        0x05 => fits(4, left),
-        0x06 => fits(0, left),
-        0x07 => fits(5, left),
-        0x08 => fits(1, left),
-        0x09 => fits(1, left),
-        0x0A => fits(4, left),
-        0x0D => fits(5, left),
-        _ => Verdict::Refused(Refusal::UnknownMacCommand),
-    }
-}
-
 // ---- Up.
 
-// The command with this CID. It is all there, so no arm tests that again.
+// The command that a step gave. Its length is known to the step, so no arm tests it again.
 fn uplink_command(stream: &[u8], at: usize, cid: u8) -> UplinkMacCommand
     requires { ⌜ StandsAt (lengthOf sentUp) (now stream) at cid ⌝ }
     ensures { λ r. ⌜ foundAt (lengthOf sentUp) (now (stream .entry)) at ≡ given (command (uplinkCmd r) (at + size (uplinkCmd r))) ⌝ }
@@ -180,29 +133,61 @@ fn uplink_command(stream: &[u8], at: usize, cid: u8) -> UplinkMacCommand
 pub fn uplink_at(stream: &[u8], at: usize) -> UplinkStep
     ensures { λ r. ⌜ toldUplinkStep r ≡ foundAt (lengthOf sentUp) (now (stream .entry)) at ⌝ }
 {
-    if stream.len() <= at {
-        if stream.len() < at {
-            return UplinkStep::Refused(Refusal::InvalidIndex);
-        }
-        return UplinkStep::End;
-    }
-    let cid = stream[at];
-    let left = stream.len() - at;
-    let verdict = uplink_fits(cid, left);
-    match verdict {
-        Verdict::Accepted => {
+    let rules = Rules {
+        direction: Direction::Up,
+    };
+    let found = step_at(rules, stream, at);
+    match found {
+        Step::Command {
+            cid,
+            len: _,
+            next: _,
+        } => {
             let command = uplink_command(stream, at, cid);
-            // A constant in each arm: where the processor foresees the arm, it knows the next offset too.
+            // Its own length and not the step's: where the processor foresees the arm, it knows the next offset too.
             let len = command.len();
             let body = at + 1;
             let behind = body + len;
             UplinkStep::Command(command, behind)
         }
-        Verdict::Refused(reason) => UplinkStep::Stop { reason, at },
+        Step::End => UplinkStep::End,
+        Step::Stop { reason, at: place } => UplinkStep::Stop { reason, at: place },
+        Step::Refused(reason) => UplinkStep::Refused(reason),
     }
 }
 
 // ---- Down.
+
+// Whether a payload of so many bytes is all there, where so many are left from its CID on. Of those, one is the CID.
+fn fits(len: usize, left: usize) -> Verdict
+    ensures { λ r. ⌜ toldVerdict r ≡ roomFor (some len) left ⌝ }
+{
+    if len < left {
+        Verdict::Accepted
+    } else {
+        Verdict::Refused(Refusal::TruncatedPayload)
+    }
+}
+
+// Each length is a constant in its CID's arm, and not read from the walk's table: so the compiler makes one jump of this `match` and of those
+// behind it, and where the processor foresees that jump, it waits for no length. (Up, where half the commands have no payload, it makes two.)
+fn downlink_fits(cid: u8, left: usize) -> Verdict
+    ensures { λ r. ⌜ toldVerdict r ≡ roomFor (lengthOf sentDown cid) left ⌝ }
+{
+    match cid {
+        0x02 => fits(2, left),
+        0x03 => fits(4, left),
+        0x04 => fits(1, left),
+        0x05 => fits(4, left),
+        0x06 => fits(0, left),
+        0x07 => fits(5, left),
+        0x08 => fits(1, left),
+        0x09 => fits(1, left),
+        0x0A => fits(4, left),
+        0x0D => fits(5, left),
+        _ => Verdict::Refused(Refusal::UnknownMacCommand),
+    }
+}
 
 // The command with this CID. It is all there, so no arm tests that again.
 fn downlink_command(stream: &[u8], at: usize, cid: u8) -> DownlinkMacCommand

@@ -1,21 +1,21 @@
 -- `downlink_fits` meets its contract: each arm by its row, the last as no other row is left. Assumes nothing.
 use Prim.Native.Nat.{ℕ}
 use mathlib.Core.Option.{Option, some}
-use mathlib.Core.Path.{_≡_, refl, sym, ap}
+use mathlib.Core.Path.{_≡_, refl, sym, ap, _∙_}
 use Rattle.table.specs.Answers.{Consent}
 use Rattle.table.specs.declared.rules.Direction.the-variants.{Down}
 use Rattle.table.specs.Table.{rows, lengthOf}
 use Rattle.payloads.specs.Commands.{sentDown}
 use Rattle.payloads.proofs.Rows.{missing}
 use Rattle.walk.specs.Command.{roomFor}
-use Rattle.walk.proofs.Commands.{row-room}
 use borrow.Author.Needs.{needs}
 use Rattle.walk.proofs.command.downlink_fits.Statement.{statement}
 use Rattle.walk.proofs.command.downlink_fits.Tie as tie
 
+-- what the test says of the length that a row gives, it says of the row's CID
 row-in : (c : tie.Start) (k n : ℕ) → c .args .cid ≡ k → lengthOf sentDown k ≡ some n → {v : Consent} → v ≡ roomFor (some n) (c .args .left)
     → v ≡ roomFor (lengthOf sentDown (c .args .cid)) (c .args .left)
-row-in c k n key rule p = row-room (lengthOf sentDown) (c .args .cid) k n (c .args .left) key rule p
+row-in c k n key rule p = p ∙ ap (λ (l : Option ℕ). roomFor l (c .args .left)) (sym (ap (lengthOf sentDown) key ∙ rule))
 
 fits-requires : tie.Need-fits-requires
 fits-requires c κs = search needs

@@ -4,46 +4,40 @@ use mathlib.Core.Path.{sym, ap, _∙_}
 use native.Mathlib.Omega.{arith}
 use lib.ListN.{length}
 use Rattle.table.specs.Table.{lengthOf}
-use Rattle.table.specs.Told.{toldVerdict}
 use Rattle.payloads.specs.Commands.{sentUp}
 use Rattle.payloads.proofs.Commands.{uplink-size}
-use Rattle.walk.specs.Command.{uplinkCmd}
-use Rattle.walk.proofs.Commands.{ends-in, ends-there}
-use Rattle.walk.proofs.Steps.{found-past, found-end, room-stands, room-stops}
+use Rattle.walk.specs.Command.{uplinkCmd, StandsAt}
+use Rattle.walk.specs.Step.{foundAt}
+use Rattle.walk.specs.Told.{toldStep}
+use Rattle.walk.proofs.Commands.{ends-in, ends-there, no-command}
 use borrow.Author.Needs.{needs}
 use Rattle.walk.proofs.command.uplink_at.Statement.{statement}
 use Rattle.walk.proofs.command.uplink_at.Tie as tie
 
-returns : tie.Need-returns
-returns c = sym (found-past (lengthOf sentUp) _ (c .if2 .taken))
+-- the step gave a command
+abbrev stands : (c : tie.After-known-told) → StandsAt (lengthOf sentUp) (c .before .before .before .before .before .args .stream .now) (c .before .before .before .before .before .args .at) (c .before .found .given .0 .0)
+stands c = record {
+  len = c .before .found .given .0 .1 .0;
+  next = c .before .found .given .0 .1 .1 .0;
+  step = sym (c .before .before .before .step-at .ensures) ∙ ap toldStep (c .before .found .given .1);
+}
 
-returns-2 : tie.Need-returns-2
-returns-2 c = sym (found-end (lengthOf sentUp) _ (c .if2 .left) (c .before .if1 .taken))
+step-at-requires : tie.Need-step-at-requires
+step-at-requires c κs = search needs
 
-shared-slice-read-cid : tie.Need-shared-slice-read-cid
-shared-slice-read-cid c = search needs
-
-sub-left : tie.Need-sub-left
-sub-left c = search needs
-
-uplink-fits-requires : tie.Need-uplink-fits-requires
-uplink-fits-requires c κs = search needs
-
-enum-told : tie.Need-enum-told
-enum-told c = search needs
+enum-known-found : tie.Need-enum-known-found
+enum-known-found c = search needs
 
 uplink-command-requires : tie.Need-uplink-command-requires
-uplink-command-requires c κs =
-    room-stands (lengthOf sentUp) _ (c .before .before .before .before .if1 .left)
-    (sym (c .before .before .uplink-fits .ensures) ∙ ap toldVerdict (c .enum-told .given .1))
+uplink-command-requires c κs = stands c
 
 len-requires : tie.Need-len-requires
 len-requires c κs = search needs
 
 -- the typed command ends in the stream, where the code says
-ends : (c : tie.After-len) → c .before .before .before .before .before .before .before .before .args .at + 1 + c .len .result ≤ length (c .before .before .before .before .before .before .before .before .args .stream .now)
+ends : (c : tie.After-len) → c .before .before .before .before .before .before .before .args .at + 1 + c .len .result ≤ length (c .before .before .before .before .before .before .before .args .stream .now)
 ends c =
-    let a = c .before .before .before .before .before .before .before .before .args in
+    let a = c .before .before .before .before .before .before .before .args in
     let r = c .before .uplink-command in
     ends-in (lengthOf sentUp) (a .stream .now) (a .at) (uplinkCmd (r .result)) (r .ensures) _ (uplink-size (r .result) ∙ sym (c .len .ensures))
 
@@ -53,35 +47,44 @@ add-body c = let m = ends c in omega arith
 add-behind : tie.Need-add-behind
 add-behind c = let m = ends c in omega arith
 
-enum-known-verdict : tie.Need-enum-known-verdict
-enum-known-verdict c = search needs
+enum-told : tie.Need-enum-told
+enum-told c = search needs
 
-returns-3 : tie.Need-returns-3
-returns-3 c =
-    let a = c .before .before .before .before .before .before .before .before .args in
+enum-known-found-2 : tie.Need-enum-known-found-2
+enum-known-found-2 c = search needs
+
+enum-known-found-3 : tie.Need-enum-known-found-3
+enum-known-found-3 c = search needs
+
+returns : tie.Need-returns
+returns c =
+    let a = c .before .before .before .before .before .before .before .args in
     let r = c .before .uplink-command in
     ends-there (lengthOf sentUp) (a .stream .now) (a .at) (uplinkCmd (r .result)) (r .ensures) _ (uplink-size (r .result) ∙ sym (c .len .ensures))
 
+returns-2 : tie.Need-returns-2
+returns-2 c = no-command (foundAt (lengthOf sentUp) (c .before .before .before .before .args .stream .now) (c .before .before .before .before .args .at)) (sym (c .before .before .step-at .ensures) ∙ ap toldStep (c .enum-told .given .1))
+
+returns-3 : tie.Need-returns-3
+returns-3 c = no-command (foundAt (lengthOf sentUp) (c .before .before .before .before .before .args .stream .now) (c .before .before .before .before .before .args .at)) (sym (c .before .before .before .step-at .ensures) ∙ ap toldStep (c .before .found2 .given .1))
+
 returns-4 : tie.Need-returns-4
-returns-4 c =
-    sym
-    (room-stops (lengthOf sentUp) _ _ (c .before .before .before .before .before .if1 .left)
-    (sym (c .before .before .before .uplink-fits .ensures) ∙ ap toldVerdict (c .before .verdict .given .1)))
+returns-4 c = no-command (foundAt (lengthOf sentUp) (c .before .before .before .before .before .args .stream .now) (c .before .before .before .before .before .args .at)) (sym (c .before .before .before .step-at .ensures) ∙ ap toldStep (c .before .found3 .given .1))
 
 pub uplink-at-spec : {M : Type 1} → statement M
 uplink-at-spec =
     tie.close
     (tie.spec
-    returns
-    returns-2
-    shared-slice-read-cid
-    sub-left
-    uplink-fits-requires
-    enum-told
+    step-at-requires
+    enum-known-found
     uplink-command-requires
     len-requires
     add-body
     add-behind
-    enum-known-verdict
+    enum-told
+    enum-known-found-2
+    enum-known-found-3
+    returns
+    returns-2
     returns-3
     returns-4)
