@@ -1,48 +1,165 @@
--- P1 to P15 hold, from the cases of each crate. Assumes nothing.
-use mathlib.Core.List.{List, [], _∷_, _++_, map}
-use Rattle.bits.specs.Every.{Every}
-use Rattle.fields.specs.Cases as Fields
-use Rattle.payloads.specs.Cases as Payloads
-use Rattle.creators.specs.Cases as Creators
-use Rattle.walk.specs.Cases as Walk
-use Rattle.build.specs.Cases as Build
-use Rattle.fields.proofs.Cases as FieldsHold
-use Rattle.payloads.proofs.Cases as PayloadsHold
-use Rattle.creators.proofs.Cases as CreatorsHold
-use Rattle.walk.proofs.Cases as WalkHold
-use Rattle.build.proofs.Cases as BuildHold
-use Rattle.claims.specs.Examples.{Example, small, reads, sets, walks, builds, Holds, examples, ExamplesHold}
+-- P1 to P15 hold: each side computes, but for what the contracts say. Assumes nothing.
+use Prim.Native.Nat.{ℕ, zero, suc}
+use mathlib.Core.Bool.{Bool}
+use mathlib.Core.List.{List, [], _∷_}
+use mathlib.Core.Path.{_≡_, refl, sym, ap, _∙_, subst}
+use native.Mathlib.Omega.{arith}
+use lib.IntN.{ℤ, pos, negℤ}
+use denote.Ref.{RefT, now}
+use Rattle.table.specs.Answers.{Answer, given, refused}
+use Rattle.table.specs.Table.{lengthOf}
+use Rattle.table.specs.declared.rules.Direction.{Direction}
+use Rattle.fields.specs.Frequency.{bytesOf, hertz}
+use Rattle.fields.specs.Lists.{exactly, tabulate}
+use Rattle.fields.specs.Places.{TXParamSetupReq·maxEirp, TXParamSetupReq·downlinkDwellTime}
+use Rattle.fields.specs.Told.{toldFrequency}
+use Rattle.fields.specs.declared.frequency.FrequencyAnswer.{FrequencyAnswer}
+use Rattle.fields.specs.declared.frequency.FrequencyAnswer.the-variants as FrequencyAnswer
+use Rattle.creators.specs.Image.{putAt, putBytes, checkedAt}
+use Rattle.creators.specs.Setters.{isMargin, sixBits, marginAt, dwellAt, lowBytes, secondsAt, nanoSecondsAt}
+use Rattle.walk.specs.Walk.{Placed, Ending, Walk, go, walkOf}
+use Rattle.build.specs.Build.{Built, sumFrom, buildOf}
+use Rattle.lent.specs.Records.{itemsOf}
+use Rattle.claims.specs.Handing.{Reads}
+use Rattle.claims.specs.Examples.{Example, Holds, InHertz, Lifted, BuildsTo, ExamplesHold}
+use Rattle.claims.proofs.Building.{packed-defined, structs-defined}
+use Rattle.claims.proofs.Handing.{reads}
 
-front : {A : Type 0} (P : A → Type 0) (xs ys : List A) → Every P (xs ++ ys) → Every P xs
-front P [] ys e = tt
-front P (x ∷ xs) ys e = (e .0, front P xs ys (e .1))
+-- a stream whose walk is known
+read : (d : Direction) (bytes : List ℕ) (cmds : List Placed) (ending : Ending)
+    → walkOf (lengthOf (record { direction = d })) bytes ≡ record { cmds = cmds; ending = ending } → Holds (Example.reads d bytes cmds ending)
+read d bytes cmds ending e stream same =
+    subst (λ (w : Walk). Reads (record { direction = d }) stream (w .cmds) (w .ending)) (ap (walkOf (lengthOf (record { direction = d }))) same ∙ e)
+    (reads (record { direction = d }) stream)
 
-back : {A : Type 0} (P : A → Type 0) (xs ys : List A) → Every P (xs ++ ys) → Every P ys
-back P [] ys e = e
-back P (x ∷ xs) ys e = back P xs ys (e .1)
+-- three bytes that are a frequency
+in-hertz : (bytes : List ℕ) (hz : ℕ) → hertz bytes ≡ hz → (a : FrequencyAnswer) → toldFrequency a ≡ given bytes → InHertz hz a
+in-hertz bytes hz e (FrequencyAnswer.Read f) t = λ r g. let same : bytesOf f ≡ bytes = cc in g .1 .1 ∙ ap hertz same ∙ e
+in-hertz bytes hz e (FrequencyAnswer.Refused n) t = let z : _≡_ {A = ℕ} 0 1 = cc in omega arith
 
-join : {A : Type 0} (P : A → Type 0) (xs ys : List A) → Every P xs → Every P ys → Every P (xs ++ ys)
-join P [] ys d e = e
-join P (x ∷ xs) ys d e = (d .0, join P xs ys (d .1) e)
+power-then-dwell : Holds (Example.power-then-dwell 15 0x2E 33)
+unfolding putAt checkedAt dwellAt
+power-then-dwell = record {
+  so = record {
+    set = λ c d r new power dwell.
+        let fresh : c .«data» ≡ 0x09 ∷ 0 ∷ [] = new .1 .1 in
+        let e = power .1 .1 ∙ ap (λ (image : List ℕ). checkedAt TXParamSetupReq·maxEirp 11 image 15) fresh in
+        (ap (λ p. p .0) e, dwell .1 .1 ∙ ap (λ p. dwellAt TXParamSetupReq·downlinkDwellTime (p .1)) e);
+    read = λ r g. g .1 .1;
+  };
+}
 
--- a list of examples that hold
-abbrev Held : Type 0
-Held = (xs : List Example) × Every Holds xs
-
-abbrev then : Held → Held → Held
-then a b = (a .0 ++ b .0, join Holds (a .0) (b .0) (a .1) (b .1))
+seconds : Holds (Example.seconds 16_909_060 0x04 0x03 0x02 0x01 67_305_985)
+unfolding putBytes lowBytes secondsAt
+seconds = record {
+  so = record {
+    set = λ x y new set. set .1 .1 ∙ ap (λ (image : List ℕ). secondsAt image 16_909_060) (new .1 .1);
+    read = λ r g. g .1 .1;
+  };
+}
 
 pub examples-hold : ExamplesHold
-examples-hold =
-    let f = FieldsHold.cases-hold in
-    let r = PayloadsHold.cases-hold in
-    let c = CreatorsHold.cases-hold in
-    then (map walks (Walk.p1 ++ Walk.p2 ++ Walk.p3 ++ Walk.p4 ++ Walk.p5 ++ Walk.p6), WalkHold.cases-hold)
-    (then (map small Fields.p7, front Fields.Holds Fields.p7 (Fields.p14 ++ Fields.p15) f)
-    (then (map reads Payloads.p8, front Payloads.Holds Payloads.p8 Payloads.p9 r)
-    (then (map sets Creators.p8, front Creators.Holds Creators.p8 (Creators.p10 ++ Creators.p11 ++ Creators.p12) c)
-    (then (map reads Payloads.p9, back Payloads.Holds Payloads.p8 Payloads.p9 r)
-    (then (map sets (Creators.p10 ++ Creators.p11 ++ Creators.p12), back Creators.Holds Creators.p8 (Creators.p10 ++ Creators.p11 ++ Creators.p12) c)
-    (then (map builds Build.p13, BuildHold.cases-hold)
-    (map small (Fields.p14 ++ Fields.p15), back Fields.Holds Fields.p7 (Fields.p14 ++ Fields.p15) f)))))))
-    .1
+unfolding go isMargin sixBits marginAt nanoSecondsAt putAt putBytes checkedAt dwellAt lowBytes secondsAt sumFrom tabulate
+examples-hold = (
+  read _ _ _ _ refl,
+  (
+    read _ _ _ _ refl,
+    (
+      read _ _ _ _ refl,
+      (
+        read _ _ _ _ refl,
+        (
+          read _ _ _ _ refl,
+          (
+            read _ _ _ _ refl,
+            (
+              read _ _ _ _ refl,
+              (
+                record { so = λ s e a g. in-hertz _ _ refl a (g .1 .1 ∙ ap (exactly 3) e) },
+                (
+                  record { so = λ s e a g. in-hertz _ _ refl a (g .1 .1 ∙ ap (exactly 3) e) },
+                  (
+                    record { so = λ battery r g. g .1 .1 },
+                    (
+                      record { so = λ battery r g. g .1 .1 },
+                      (
+                        record { so = λ battery r g. g .1 .1 },
+                        (
+                          record { so = λ c r g. (ap (λ p. p .0) (g .1 .1), ap (λ p. record { «data» = p .1 }) (g .1 .1)) },
+                          (
+                            record { so = λ c r g. (ap (λ p. p .0) (g .1 .1), ap (λ p. record { «data» = p .1 }) (g .1 .1)) },
+                            (
+                              record { so = λ r g. g .1 .1 },
+                              (
+                                record { so = λ r g. g .1 .1 },
+                                (
+                                  record { so = λ r g. g .1 .1 },
+                                  (
+                                    record { so = λ r g. g .1 .1 },
+                                    (
+                                      record { so = λ r g. (ap (λ p. p .0) (g .1 .1), ap (λ p. p .1) (g .1 .1)) },
+                                      (
+                                        record { so = λ r g. (ap (λ p. p .0) (g .1 .1), ap (λ p. p .1) (g .1 .1)) },
+                                        (
+                                          record { so = λ r g. (ap (λ p. p .0) (g .1 .1), ap (λ p. p .1) (g .1 .1)) },
+                                          (
+                                            power-then-dwell,
+                                            (
+                                              seconds,
+                                              (
+                                                record { packed = λ a o b. let e = packed-defined _ _ _ _ _ b .says in (ap (λ p. p .0) e, ap (λ p. p .1) e); structs = λ a o b. let e = structs-defined _ _ _ _ _ b .says in (ap (λ p. p .0) e, ap (λ p. p .1) e) },
+                                                (
+                                                  record { packed = λ a o b. let e = packed-defined _ _ _ _ _ b .says in (ap (λ p. p .0) e, ap (λ p. p .1) e); structs = λ a o b. let e = structs-defined _ _ _ _ _ b .says in (ap (λ p. p .0) e, ap (λ p. p .1) e) },
+                                                  (
+                                                    record { so = λ r g. g .1 .1 },
+                                                    (
+                                                      record { so = λ r g. g .1 .1 },
+                                                      (
+                                                        record { so = λ r g. g .1 .1 },
+                                                        (
+                                                          record { so = λ r g. (ap (λ p. p .0) (g .1 .1), ap (λ p. p .1) (g .1 .1)) },
+                                                          (
+                                                            record { so = λ r g. (ap (λ p. p .0) (g .1 .1), ap (λ p. p .1) (g .1 .1)) },
+                                                            (
+                                                              record { so = λ r g. (ap (λ p. p .0) (g .1 .1), ap (λ p. p .1) (g .1 .1)) },
+                                                              (
+                                                                record { so = λ a g. g .1 .1 },
+                                                                (
+                                                                  record { so = λ a g. g .1 .1 },
+                                                                  (
+                                                                    record { so = λ a g. g .1 .1 },
+                                                                    record { so = tt },
+                                                                  ),
+                                                                ),
+                                                              ),
+                                                            ),
+                                                          ),
+                                                        ),
+                                                      ),
+                                                    ),
+                                                  ),
+                                                ),
+                                              ),
+                                            ),
+                                          ),
+                                        ),
+                                      ),
+                                    ),
+                                  ),
+                                ),
+                              ),
+                            ),
+                          ),
+                        ),
+                      ),
+                    ),
+                  ),
+                ),
+              ),
+            ),
+          ),
+        ),
+      ),
+    ),
+  ),
+)

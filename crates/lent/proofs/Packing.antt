@@ -27,7 +27,7 @@ use Rattle.lent.specs.Records.{recsOf}
 use Rattle.lent.specs.Packing.{inSlot, Packed, AnswersAsPacked, PackMakesSlots}
 
 -- a length that has room in a slot stays
-short-stays : (r : Rec) → r .len < 256 → inSlot r ≡ r
+pub short-stays : (r : Rec) → r .len < 256 → inSlot r ≡ r
 short-stays r h = ap (λ (b : Bool). record { cid = r .cid; len = cond b (r .len) 255; bytes = r .bytes }) (lt-ltb (r .len) 256 h)
 
 -- and one that has none is as wrong there
@@ -113,7 +113,7 @@ tabulated (y ∷ ys) f h =
     ap (λ (r : Rec). r ∷ tabulate (length ys) (λ (k : ℕ). f (suc k))) (h 0 (omega arith))
     ∙ ap (λ (rs : List Rec). inSlot (heldBy y) ∷ rs) (tabulated ys (λ (k : ℕ). f (suc k)) (λ i l. h (suc i) (omega arith)))
 
-slots-are : (ys : List Record) (s : List ℕ) → Packed s ys → slotsOf s ≡ map whole (map inSlot (recsOf ys))
+pub slots-are : (ys : List Record) (s : List ℕ) → Packed s ys → slotsOf s ≡ map whole (map inSlot (recsOf ys))
 slots-are ys s p =
     let c = p .count in
     let no-rest : length s % 8 ≡ 0 = omega arith in
@@ -171,7 +171,7 @@ abbrev seven : Rec → List ℕ
 seven r = r .cid ∷ lenByte (r .len) ∷ r .bytes
 
 -- what a slot has is known from its seven bytes
-slot-same : (s t : List ℕ) (i j : ℕ) → ((k : ℕ) → k < 7 → getD s (8 * i + k) 0 ≡ getD t (8 * j + k) 0) → slotAt s i ≡ slotAt t j
+pub slot-same : (s t : List ℕ) (i j : ℕ) → ((k : ℕ) → k < 7 → getD s (8 * i + k) 0 ≡ getD t (8 * j + k) 0) → slotAt s i ≡ slotAt t j
 slot-same s t i j h =
     let z : getD s (8 * i) 0 ≡ getD t (8 * j) 0 =
     ap (λ (k : ℕ). getD s k 0) (sym (add-zero (8 * i))) ∙ h 0 (omega arith) ∙ ap (λ (k : ℕ). getD t k 0) (add-zero (8 * j)) in

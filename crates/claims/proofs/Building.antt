@@ -1,0 +1,222 @@
+-- What the builds answer and leave: crates/claims/specs/Building.antt. Assumes nothing.
+use Prim.Native.Nat.{ℕ, suc, _+_, _<_, _≤_}
+use mathlib.Core.Bool.{Bool, true, false, cond}
+use mathlib.Core.List.{List, [], _∷_, map}
+use mathlib.Core.Logic.{_↔_}
+use mathlib.Core.Option.{some}
+use mathlib.Core.Path.{_≡_, refl, sym, ap, _∙_, subst}
+use native.Mathlib.Decide.{decLe}
+use native.Mathlib.Omega.{arith}
+use base.Logic.{id⊢}
+use lib.Dec.{leb}
+use lib.ListN.{length, take, drop}
+use borrow.Author.Tests.{le-leb, lt-leb}
+use denote.Ref.{RefT, now}
+use Rattle.bits.specs.Every.{Every}
+use Rattle.table.specs.Table.{lengthOf}
+use Rattle.table.specs.declared.rules.Rules.{Rules}
+use Rattle.table.proofs.Lengths.{at-most-five}
+use Rattle.walk.specs.Walk.{Rule, Cmd, Placed, Walk, Ending, end, encode, place, bare, walkOf}
+use Rattle.build.specs.Records.{Item, whole, part, cmdsOf, slotsOf, over}
+use Rattle.build.specs.Build.{Built, total, refusedAt, refused, totalOf, fill, buildOf}
+use Rattle.build.specs.ThereAndBack.{Commands, Full}
+use Rattle.build.specs.declared.record.Record.{Record}
+use Rattle.build.proofs.Slots.{slots-full}
+use Rattle.build.proofs.ThereAndBack as ThereAndBack
+use Rattle.lent.specs.Records.{itemsOf}
+use Rattle.claims.specs.Building.{
+  Five,
+  Builder,
+  Packed,
+  Structs,
+  Four,
+  LenPacked,
+  LenStructs,
+  measured,
+  IsRefusal,
+  StandsFor,
+  RefusedKeeps,
+  BuiltReadsBack,
+  AcceptsExactly,
+  SameBytesSameList,
+  LengthAgrees,
+  same,
+  no-room,
+  LengthForBuild,
+  Builds,
+}
+use Rattle.claims.specs.Building as Building
+use Rattle.claims.specs.Handing.{Reads}
+use Rattle.claims.proofs.Handing.{reads}
+use Rattle.claims.proofs.Lists.{every-list-built}
+use Rattle.claims.proofs.Owning.{bare-place}
+
+-- ---- each build answers and leaves what the definition says
+
+pub record AsDefined (rules : Rules) (xs : List Item) (before : List ℕ) (a : Built) (after : List ℕ) : Type 0 where
+  pub says : _≡_ {A = Built × List ℕ} (a, after) (buildOf (lengthOf rules) xs before)
+  pub full : Full (lengthOf rules) xs
+
+abbrev pub Defined : Builder → Type 2
+Defined B = (rules : Rules) (xs : List Item) (before after : List ℕ) (a : Built) → B rules xs before a after → AsDefined rules xs before a after
+
+-- no payload of the table is longer than five bytes
+full-five : (rules : Rules) (records : List Record) → Every Five records → Full (lengthOf rules) (itemsOf records)
+full-five rules [] f = tt
+full-five rules (r ∷ rs) f = (
+  λ e. let m = at-most-five rules (r .cid) (r .len) e in let k : length (r .payload) ≡ 5 = f .0 in omega arith,
+  full-five rules rs (f .1),
+)
+
+pub packed-defined : Defined Packed
+packed-defined rules _ _ _ _ (Building.built slots out r after g) = record {
+  says = ap (λ (o : List ℕ). (_, o)) (sym (g .1 .1 .1)) ∙ g .1 .1 .0;
+  full = slots-full rules (now slots);
+}
+
+pub structs-defined : Defined Structs
+structs-defined rules _ _ _ _ (Building.built records out r κs exit f q) = record {
+  says = q _ (λ M 𝓤 H A mem run g. id⊢ 𝓤 _);
+  full = full-five rules (now records) f;
+}
+
+four-defined : Defined Four
+four-defined rules _ _ _ _ (Building.built records out r κs exit f q) = record {
+  says = q _ (λ M 𝓤 H A mem run g. id⊢ 𝓤 _);
+  full = full-five rules records f;
+}
+
+-- ---- the claims, of any build that does
+
+-- what is no total leaves memory as it was
+fill-kept : (b : Built) (bytes out : List ℕ) → IsRefusal (fill b bytes out .0) → fill b bytes out .1 ≡ out
+fill-kept (total n) bytes out h = by (leb n (length out)) h
+  where
+    by : (ok : Bool) → IsRefusal (cond {A = Built × List ℕ} ok (total n, over out 0 bytes) (refused 4, out) .0)
+        → cond {A = Built × List ℕ} ok (total n, over out 0 bytes) (refused 4, out) .1 ≡ out
+    by true h = absurd h
+    by false h = refl
+fill-kept (refusedAt k place) bytes out h = refl
+fill-kept (refused k) bytes out h = refl
+
+-- as many records as commands
+as-many : (L : Rule) (xs : List Item) → Commands L xs → length xs ≡ length (cmdsOf xs)
+as-many L [] c = refl
+as-many L (whole r ∷ xs) c = ap suc (as-many L xs (c .2))
+as-many L (part ∷ xs) c = absurd c
+
+module _ (B : Builder) (d : Defined B) where
+  refused-keeps : RefusedKeeps B
+  refused-keeps rules xs before after a b h =
+      let e = d rules xs before after a b .says in
+      ap (λ x. x .1) e ∙ fill-kept (totalOf (lengthOf rules) xs) (encode (cmdsOf xs)) before (subst IsRefusal (ap (λ x. x .0) e) h)
+
+  -- after a build of a list that stands for commands and fits, the walk of the bytes written is those commands and the end
+  record Written (rules : Rules) (cs : List Cmd) (before : List ℕ) (a : Built) (after : List ℕ) : Type 0 where
+    pub size : a ≡ total (length (encode cs))
+    pub later : drop (length (encode cs)) after ≡ drop (length (encode cs)) before
+    pub walk : walkOf (lengthOf rules) (take (length (encode cs)) after) ≡ record { cmds = place 0 cs; ending = end (length (encode cs)) }
+
+  written : (rules : Rules) (cs : List Cmd) (xs : List Item) (before after : List ℕ) (a : Built) → length cs ≤ 4096 → StandsFor rules cs xs
+      → length (encode cs) ≤ length before → B rules xs before a after → Written rules cs before a after
+  written rules cs xs before after a few st fits b =
+      subst (λ (cs : List Cmd). Written rules cs before a after) (st .same) (of-list
+      (subst (λ (n : ℕ). n ≤ 4096) (sym (as-many (lengthOf rules) xs (st .well-formed) ∙ ap length (st .same))) few)
+      (subst (λ (cs : List Cmd). length (encode cs) ≤ length before) (sym (st .same)) fits))
+    where
+      of-list : length xs ≤ 4096 → length (encode (cmdsOf xs)) ≤ length before → Written rules (cmdsOf xs) before a after
+      of-list few fits =
+          let e = d rules xs before after a b .says in
+          let w = ThereAndBack.build-then-walk (lengthOf rules) xs before few (st .well-formed) fits in
+          record {
+            size = ap (λ x. x .0) e ∙ w .size;
+            later = ap (λ x. drop (length (encode (cmdsOf xs))) (x .1)) e ∙ w .later;
+            walk = ap (λ x. walkOf (lengthOf rules) (take (length (encode (cmdsOf xs))) (x .1))) e ∙ w .walk;
+          }
+
+  built-reads-back : BuiltReadsBack B
+  built-reads-back rules cs xs before after a few st fits b =
+      let w = written rules cs xs before after a few st fits b in
+      record {
+        size = w .size;
+        later = w .later;
+        reads = λ stream e.
+            subst (λ (x : Walk). Reads rules stream (x .cmds) (x .ending)) (ap (walkOf (lengthOf rules)) e ∙ w .walk) (reads rules stream);
+      }
+
+  accepts-exactly : AcceptsExactly B
+  accepts-exactly rules xs before after a b =
+      let x = d rules xs before after a b in
+      let e : a ≡ buildOf (lengthOf rules) xs before .0 = ap (λ x. x .0) (x .says) in
+      let t = ThereAndBack.accepts (lengthOf rules) xs before (x .full) in (
+        λ (y : (n : ℕ) × (a ≡ total n)). t .0 (y .0, sym e ∙ y .1),
+        λ (y : (length xs ≤ 4096) × Commands (lengthOf rules) xs × (length (encode (cmdsOf xs)) ≤ length before)). let z = t .1 y in (z .0, e ∙ z .1),
+      )
+
+  -- what an accepted build wrote
+  accepted-wrote : (rules : Rules) (cs : List Cmd) (xs : List Item) (before after : List ℕ) (n : ℕ) → StandsFor rules cs xs → B rules xs before (total n) after
+      → walkOf (lengthOf rules) (take n after) .cmds ≡ place 0 cs
+  accepted-wrote rules cs xs before after n st b =
+      let t = accepts-exactly rules xs before after (total n) b .0 (n, refl) in
+      let w = written rules cs xs before after (total n)
+      (subst (λ (n : ℕ). n ≤ 4096) (as-many (lengthOf rules) xs (st .well-formed) ∙ ap length (st .same)) (t .0))
+      st (subst (λ (cs : List Cmd). length (encode cs) ≤ length before) (st .same) (t .2)) b in
+      let n-is : n ≡ length (encode cs) = let q = w .size in cc in
+      ap (λ (k : ℕ). walkOf (lengthOf rules) (take k after) .cmds) n-is ∙ ap (λ (x : Walk). x .cmds) (w .walk)
+
+same-bytes : (B C : Builder) → Defined B → Defined C → SameBytesSameList B C
+same-bytes B C d d' rules cs ds xs ys before before' after after' m n st st' b c e =
+    let one = accepted-wrote B d rules cs xs before after m st b in
+    let two = accepted-wrote C d' rules ds ys before' after' n st' c in
+    let placed : place 0 cs ≡ place 0 ds = sym one ∙ ap (λ (s : List ℕ). walkOf (lengthOf rules) s .cmds) e ∙ two in
+    sym (bare-place 0 cs) ∙ ap bare placed ∙ bare-place 0 ds
+
+-- the length that is asked beforehand
+agrees : (l : Built) (bytes before : List ℕ) → LengthAgrees l (length before) (fill l bytes before .0)
+agrees (total n) bytes before = by (decLe n (length before))
+  where
+    by : Dec (n ≤ length before) → LengthAgrees (total n) (length before) (fill (total n) bytes before .0)
+    by (yes h) = same (ap (λ (b : Bool). cond {A = Built × List ℕ} b (total n, over before 0 bytes) (refused 4, before) .0) (le-leb n (length before) h))
+    by (no h) =
+        let more : length before < n = omega arith in
+        no-room n refl more (ap (λ (b : Bool). cond {A = Built × List ℕ} b (total n, over before 0 bytes) (refused 4, before) .0) (lt-leb n (length before) more))
+agrees (refusedAt k place) bytes before = same refl
+agrees (refused k) bytes before = same refl
+
+length-for-build : (Len : Rules → List Item → Built → Type 2) → ((rules : Rules) (xs : List Item) (l : Built) → Len rules xs l → l ≡ totalOf (lengthOf rules) xs)
+    → (B : Builder) → Defined B → LengthForBuild Len B
+length-for-build Len len B d rules xs before after l a x b =
+    let e : a ≡ fill l (encode (cmdsOf xs)) before .0 =
+    ap (λ x. x .0) (d rules xs before after a b .says) ∙ ap (λ (t : Built). fill t (encode (cmdsOf xs)) before .0) (sym (len rules xs l x)) in
+    subst (LengthAgrees l (length before)) (sym e) (agrees l (encode (cmdsOf xs)) before)
+
+len-packed : (rules : Rules) (xs : List Item) (l : Built) → LenPacked rules xs l → l ≡ totalOf (lengthOf rules) xs
+len-packed rules _ _ (measured slots r g) = g .1 .1
+
+len-structs : (rules : Rules) (xs : List Item) (l : Built) → LenStructs rules xs l → l ≡ totalOf (lengthOf rules) xs
+len-structs rules _ _ (measured records r κs exit q) = q _ (λ M 𝓤 H A mem run g. id⊢ 𝓤 _)
+
+pub keeps-packed : RefusedKeeps Packed
+keeps-packed = refused-keeps Packed packed-defined
+
+pub keeps-structs : RefusedKeeps Structs
+keeps-structs = refused-keeps Structs structs-defined
+
+pub keeps-four : RefusedKeeps Four
+keeps-four = refused-keeps Four four-defined
+
+pub builds : Builds
+builds = record {
+  lists = every-list-built;
+  packed = built-reads-back Packed packed-defined;
+  structs = built-reads-back Structs structs-defined;
+  four = built-reads-back Four four-defined;
+  accepts-packed = accepts-exactly Packed packed-defined;
+  accepts-structs = accepts-exactly Structs structs-defined;
+  accepts-four = accepts-exactly Four four-defined;
+  same-packed = same-bytes Packed Packed packed-defined packed-defined;
+  same-structs = same-bytes Structs Structs structs-defined structs-defined;
+  same-either = same-bytes Packed Structs packed-defined structs-defined;
+  length-packed = length-for-build LenPacked len-packed Packed packed-defined;
+  length-structs = length-for-build LenStructs len-structs Structs structs-defined;
+}

@@ -1,0 +1,282 @@
+-- What the public entries hand out is the defined walk: crates/claims/specs/Handing.antt and Owning.antt. Assumes nothing.
+use Prim.Native.Nat.{ℕ, _+_, _≤_}
+use mathlib.Core.Bool.{Bool, cond}
+use mathlib.Core.List.{List, [], _∷_, _++_, append-nil, append-assoc}
+use mathlib.Core.Path.{_≡_, refl, sym, ap, _∙_, subst}
+use native.Mathlib.Omega.{arith}
+use lib.ListN.{length, take, drop, length-append}
+use lib.Seq.{length-take-le}
+use borrow.Author.Tests.{le-leb}
+use base.Logic.{id⊢}
+use denote.Ref.{RefT, now}
+use Rattle.table.specs.Answers.{Answer, given, refused}
+use Rattle.table.specs.Table.{lengthOf}
+use Rattle.table.specs.declared.rules.Rules.{Rules}
+use Rattle.payloads.specs.Commands.{sentUp, sentDown}
+use Rattle.walk.specs.Ownership.{offsetOf, Ends, Owned}
+use Rattle.walk.specs.Part.{Part, shown, payloadPart, partOf, emptyFront}
+use Rattle.walk.specs.Step.{Found, ended, command, stopped, Heading, firstOf, firstMove, foundAt, inNumbers, stepAt, tally}
+use Rattle.walk.specs.Told.{toldStep, toldWalk}
+use Rattle.walk.specs.Walk.{Rule, Cmd, Placed, Ending, end, stop, placeOf, Walk, WellFormed, encode, size, place, bare, walkFrom, walkOf}
+use Rattle.walk.specs.declared.step.Step.{Step}
+use Rattle.walk.specs.declared.whole.WalkEnd.{WalkEnd}
+use Rattle.walk.proofs.Ownership as Ownership
+use Rattle.walk.proofs.Steps.{ended-no-command}
+use Rattle.lent.specs.Iterator.{movedTo, fresh, nexted}
+use Rattle.lent.specs.declared.iterator.MacCommandIterator.{MacCommandIterator}
+use Rattle.claims.specs.Handing.{
+  Front,
+  withPayload,
+  onward,
+  AtStart,
+  StepAsked,
+  UplinkAsked,
+  DownlinkAsked,
+  Made,
+  by-new,
+  parsed-up,
+  parsed-down,
+  NextAsked,
+  NoCommand,
+  Run,
+  begun,
+  handed,
+  none-handed,
+  Between,
+  HandsOut,
+  Reads,
+  steps,
+  uplinkSteps,
+  downlinkSteps,
+  iterator,
+}
+use Rattle.claims.specs.Handing as Handing
+
+-- ---- lists of commands
+
+pub bare-append : (xs ys : List Placed) → bare (xs ++ ys) ≡ bare xs ++ bare ys
+bare-append [] ys = refl
+bare-append (x ∷ xs) ys = ap (λ (l : List Cmd). x .cmd ∷ l) (bare-append xs ys)
+
+one-more-size : (cs : List Cmd) (c : Cmd) → length (encode (cs ++ (c ∷ []))) ≡ length (encode cs) + size c
+one-more-size [] c = simp length-append (omega arith)
+one-more-size (d ∷ cs) c =
+    let ih = one-more-size cs c in
+    simp length-append (omega arith)
+
+-- ---- where the walk stands
+
+module _ (L : Rule) (s : List ℕ) (before coming : List Placed) (e : walkOf L s .cmds ≡ before ++ coming) where
+  owned : Owned L s before coming
+  owned = Ownership.every-byte-owned L s before coming e
+
+  pub stands-behind : offsetOf coming (walkOf L s .ending) ≡ length (encode (bare before))
+  stands-behind = sym (length-take-le (offsetOf coming (walkOf L s .ending)) s (owned .within)) ∙ ap length (owned .bytes)
+
+  pub found-there : foundAt L s (offsetOf coming (walkOf L s .ending)) ≡ given (firstOf coming (walkOf L s .ending))
+  unfolding foundAt
+  found-there =
+      let k = offsetOf coming (walkOf L s .ending) in
+      ap (λ (b : Bool). cond b (given (firstMove (walkFrom L k (drop k s)))) (refused 5)) (le-leb (offsetOf coming (walkOf L s .ending)) (length s) (owned .within))
+      ∙ ap (λ (w : Walk). given (firstMove w)) (Ownership.resumes L s before coming e)
+
+-- no ending moves who reads
+stays : (e : Ending) (at : ℕ) → onward (given (firstOf [] e)) at ≡ at
+stays (end o) at = refl
+stays (stop n o) at = refl
+
+-- ---- an entry that answers as the definition of a step says
+
+pub record Faithful (L : Rule) (s : List ℕ) (F : Front) : Type 2 where
+  -- what holds of the states
+  pub Sound : F .State → Type 0
+  pub begins : (st : F .State) → F .begin st → Sound st × (F .offset st ≡ 0)
+  pub asks : (st st' : F .State) (a : Answer (Found Cmd)) → Sound st → F .ask st a st'
+      → (a ≡ foundAt L s (F .offset st)) × (F .offset st' ≡ onward a (F .offset st)) × Sound st'
+
+module _ (L : Rule) (s : List ℕ) (F : Front) (f : Faithful L s F) where
+  -- between two parts of the walk's list
+  pub record Position (st : F .State) (out : List Cmd) : Type 0 where
+    pub before : List Placed
+    pub coming : List Placed
+    pub parted : walkOf L s .cmds ≡ before ++ coming
+    pub handed-out : out ≡ bare before
+    pub stands : F .offset st ≡ offsetOf coming (walkOf L s .ending)
+    pub sound : f .Sound st
+
+  -- what is answered there
+  pub answered : {st : F .State} {out : List Cmd} (p : Position st out) (a : Answer (Found Cmd)) (st' : F .State) → F .ask st a st'
+      → a ≡ given (firstOf (p .coming) (walkOf L s .ending))
+  answered {st} p a st' q =
+      f .asks st st' a (p .sound) q .0 ∙ ap (foundAt L s) (p .stands) ∙ found-there L s (p .before) (p .coming) (p .parted)
+
+  moves : {st' : F .State} {out : List Cmd} (c : Cmd) (next : ℕ) (before coming : List Placed) → walkOf L s .cmds ≡ before ++ coming → out ≡ bare before
+      → f .Sound st' → F .offset st' ≡ next → _≡_ {A = Answer (Found Cmd)} (given (command c next)) (given (firstOf coming (walkOf L s .ending)))
+      → Position st' (out ++ (c ∷ []))
+  moves c next before [] e h sound o a = absurd (ended-no-command (walkOf L s .ending) (sym a))
+  moves {out = out} c next before (p ∷ ps) e h sound o a =
+      let c-is : c ≡ p .cmd = cc in
+      let next-is : next ≡ p .at + size (p .cmd) = cc in
+      let split : walkOf L s .cmds ≡ (before ++ (p ∷ [])) ++ ps = e ∙ sym (append-assoc before (p ∷ []) ps) in
+      let here : p .at ≡ length (encode (bare before)) = stands-behind L s before (p ∷ ps) e in
+      let there : offsetOf ps (walkOf L s .ending) ≡ length (encode (bare (before ++ (p ∷ [])))) = stands-behind L s (before ++ (p ∷ [])) ps split in
+      let far : length (encode (bare (before ++ (p ∷ [])))) ≡ length (encode (bare before)) + size (p .cmd) =
+      ap (λ (l : List Cmd). length (encode l)) (bare-append before (p ∷ [])) ∙ one-more-size (bare before) (p .cmd) in
+      record {
+        before = before ++ (p ∷ []);
+        coming = ps;
+        parted = split;
+        handed-out = ap (λ (l : List Cmd). l ++ (c ∷ [])) h ∙ ap (λ (d : Cmd). bare before ++ (d ∷ [])) c-is ∙ sym (bare-append before (p ∷ []));
+        stands = o ∙ next-is ∙ ap (λ (k : ℕ). k + size (p .cmd)) here ∙ sym far ∙ sym there;
+        sound = sound;
+      }
+
+  rests : {st' : F .State} {out : List Cmd} (a : Answer (Found Cmd)) (at : ℕ) (before coming : List Placed) → walkOf L s .cmds ≡ before ++ coming → out ≡ bare before
+      → at ≡ offsetOf coming (walkOf L s .ending) → f .Sound st' → F .offset st' ≡ onward a at → NoCommand a → a ≡ given (firstOf coming (walkOf L s .ending))
+      → Position st' out
+  rests a at before [] e h k sound o n q = record {
+    before = before;
+    coming = [];
+    parted = e;
+    handed-out = h;
+    stands = o ∙ ap (λ (x : Answer (Found Cmd)). onward x at) q ∙ stays (walkOf L s .ending) at ∙ k;
+    sound = sound;
+  }
+  rests a at before (p ∷ ps) e h k sound o n q = absurd (subst NoCommand q n)
+
+  pub position : {st : F .State} {out : List Cmd} → Run F st out → Position st out
+  position (begun st b) =
+      let x = f .begins st b in
+      record {
+        before = [];
+        coming = walkOf L s .cmds;
+        parted = refl;
+        handed-out = refl;
+        stands = x .1 ∙ sym (stands-behind L s [] (walkOf L s .cmds) refl);
+        sound = x .0;
+      }
+  position (handed st st' cs c next r q) =
+      let p = position r in
+      let x = f .asks st st' (given (command c next)) (p .sound) q in
+      moves c next (p .before) (p .coming) (p .parted) (p .handed-out) (x .2) (x .1) (answered p (given (command c next)) st' q)
+  position (none-handed st st' cs a r q n) =
+      let p = position r in
+      let x = f .asks st st' a (p .sound) q in
+      rests a (F .offset st) (p .before) (p .coming) (p .parted) (p .handed-out) (p .stands) (x .2) (x .1) n (answered p a st' q)
+
+  pub hands-out : HandsOut F (walkOf L s .cmds) (walkOf L s .ending)
+  hands-out st out r =
+      let p = position r in
+      record {
+        before = p .before;
+        coming = p .coming;
+        parted = p .parted;
+        handed-out = p .handed-out;
+        stands = p .stands;
+        answered = answered p;
+      }
+
+-- ---- each of the entries is one
+
+-- with the payload that is shown, a command in numbers is the command
+shown-whole : (L : Rule) (stream : RefT (List ℕ)) (at : ℕ) (a : Answer (Found Cmd)) → foundAt L (now stream) at ≡ a
+    → withPayload (inNumbers a) (payloadPart stream at (inNumbers a) .bytes) ≡ a
+shown-whole L stream at (given ended) e = refl
+shown-whole L stream at (given (command c next)) e =
+    let body : payloadPart stream at (inNumbers (given (command c next))) .bytes ≡ c .body =
+    ap (λ (x : Answer (Found Cmd)). payloadPart stream at (inNumbers x) .bytes) (sym e) ∙ ap (λ (p : Part). p .bytes) (Ownership.payload-shown L stream at next c e) in
+    ap (λ (b : List ℕ). given (command (record { cid = c .cid; body = b }) next)) body
+shown-whole L stream at (given (stopped n o)) e = refl
+shown-whole L stream at (refused n) e = refl
+
+-- a step in numbers, and the payload that is shown there
+told-whole : (L : Rule) (stream : RefT (List ℕ)) (at : ℕ) (x : Answer (Found Heading)) (p : RefT (List ℕ)) → x ≡ stepAt L (now stream) at
+    → shown p ≡ payloadPart stream at (stepAt L (now stream) at) → withPayload x (now p) ≡ foundAt L (now stream) at
+told-whole L stream at x p t q =
+    ap (λ (y : Answer (Found Heading)). withPayload y (now p)) t
+    ∙ ap (λ (y : Part). withPayload (stepAt L (now stream) at) (y .bytes)) q
+    ∙ shown-whole L stream at (foundAt L (now stream) at) refl
+
+-- one that is asked by offsets
+by-offsets : (L : Rule) (s : List ℕ) (ask : ℕ → Answer (Found Cmd) → ℕ → Type 2)
+    → ((at at' : ℕ) (a : Answer (Found Cmd)) → ask at a at' → (a ≡ foundAt L s at) × (at' ≡ onward a at))
+    → Faithful L s (record { State = ℕ; begin = AtStart; ask = ask; offset = λ at. at })
+by-offsets L s ask h = record {
+  Sound = λ at. Unit;
+  begins = λ at b. (tt, b .zero);
+  asks = λ at at' a _ q. let x = h at at' a q in (x .0, x .1, tt);
+}
+
+step-asked : (rules : Rules) (stream : RefT (List ℕ)) (at at' : ℕ) (a : Answer (Found Cmd)) → StepAsked rules stream at a at'
+    → (a ≡ foundAt (lengthOf rules) (now stream) at) × (at' ≡ onward a at)
+step-asked rules stream _ _ _ (Handing.asked at r p g q) = (told-whole (lengthOf rules) stream at (toldStep r) p (g .1 .1) (q .1 .1), refl)
+
+uplink-asked : (stream : RefT (List ℕ)) (at at' : ℕ) (a : Answer (Found Cmd)) → UplinkAsked stream at a at'
+    → (a ≡ foundAt (lengthOf sentUp) (now stream) at) × (at' ≡ onward a at)
+uplink-asked stream _ _ _ (Handing.asked at r g) = (g .1 .1, refl)
+
+downlink-asked : (stream : RefT (List ℕ)) (at at' : ℕ) (a : Answer (Found Cmd)) → DownlinkAsked stream at a at'
+    → (a ≡ foundAt (lengthOf sentDown) (now stream) at) × (at' ≡ onward a at)
+downlink-asked stream _ _ _ (Handing.asked at r g) = (g .1 .1, refl)
+
+pub steps-faithful : (rules : Rules) (stream : RefT (List ℕ)) → Faithful (lengthOf rules) (now stream) (steps rules stream)
+steps-faithful rules stream = by-offsets (lengthOf rules) (now stream) (StepAsked rules stream) (step-asked rules stream)
+
+pub uplink-faithful : (stream : RefT (List ℕ)) → Faithful (lengthOf sentUp) (now stream) (uplinkSteps stream)
+uplink-faithful stream = by-offsets (lengthOf sentUp) (now stream) (UplinkAsked stream) (uplink-asked stream)
+
+pub downlink-faithful : (stream : RefT (List ℕ)) → Faithful (lengthOf sentDown) (now stream) (downlinkSteps stream)
+downlink-faithful stream = by-offsets (lengthOf sentDown) (now stream) (DownlinkAsked stream) (downlink-asked stream)
+
+-- an iterator keeps its stream and its rules
+module _ (rules : Rules) (stream : RefT (List ℕ)) where
+  pub record Keeps (it : MacCommandIterator) : Type 0 where
+    pub same-stream : it .«data» ≡ stream
+    pub same-rules : it .rules ≡ rules
+
+  fresh-faithful : (it : MacCommandIterator) → it ≡ fresh stream rules → Keeps it × (it .index ≡ 0)
+  fresh-faithful it e = (record { same-stream = ap (λ (x : MacCommandIterator). x .«data») e; same-rules = ap (λ (x : MacCommandIterator). x .rules) e }, ap (λ (x : MacCommandIterator). x .index) e)
+
+  -- the step at an iterator's index is the stream's there
+  its-step : (it : MacCommandIterator) → Keeps it → foundAt (lengthOf (it .rules)) (now (it .«data»)) (it .index) ≡ foundAt (lengthOf rules) (now stream) (it .index)
+  its-step it k =
+      ap (λ (r : Rules). foundAt (lengthOf r) (now (it .«data»)) (it .index)) (k .same-rules)
+      ∙ ap (λ (s : RefT (List ℕ)). foundAt (lengthOf rules) (now s) (it .index)) (k .same-stream)
+
+made-faithful : (stream : RefT (List ℕ)) (rules : Rules) (it : MacCommandIterator) → Made stream rules it → Keeps rules stream it × (it .index ≡ 0)
+made-faithful stream rules it (by-new κs exit p) = fresh-faithful rules stream it (p (it ≡ fresh stream rules) (λ M 𝓤 H A mem run g. id⊢ 𝓤 _))
+made-faithful stream _ it (parsed-up κs exit p) = fresh-faithful sentUp stream it (p (it ≡ fresh stream sentUp) (λ M 𝓤 H A mem run g. id⊢ 𝓤 _))
+made-faithful stream _ it (parsed-down κs exit p) = fresh-faithful sentDown stream it (p (it ≡ fresh stream sentDown) (λ M 𝓤 H A mem run g. id⊢ 𝓤 _))
+
+module _ (rules : Rules) (stream : RefT (List ℕ)) where
+  next-faithful : (it it' : MacCommandIterator) (a : Answer (Found Cmd)) → Keeps rules stream it → NextAsked it a it'
+      → (a ≡ foundAt (lengthOf rules) (now stream) (it .index)) × (it' .index ≡ onward a (it .index)) × Keeps rules stream it'
+  next-faithful _ _ _ k (Handing.asked it r p κs exit q g) =
+      let e : _≡_ {A = Answer (Found Heading) × MacCommandIterator} (toldStep r, now (exit .0)) (nexted (now it)) = q _ (λ M 𝓤 H A mem run g. id⊢ 𝓤 _) in
+      let L = lengthOf (now it .rules) in
+      let whole : withPayload (toldStep r) (now p) ≡ foundAt L (now (now it .«data»)) (now it .index) =
+      told-whole L (now it .«data») (now it .index) (toldStep r) p (ap (λ x. x .0) e) (g .1 .1) in
+      let numbers : inNumbers (withPayload (toldStep r) (now p)) ≡ stepAt L (now (now it .«data»)) (now it .index) = ap inNumbers whole in (
+        whole ∙ its-step rules stream (now it) k,
+        ap (λ x. x .1 .index) e ∙ sym (ap (λ (x : Answer (Found Heading)). movedTo x (now it .index)) numbers),
+        record { same-stream = ap (λ x. x .1 .«data») e ∙ k .same-stream; same-rules = ap (λ x. x .1 .rules) e ∙ k .same-rules },
+      )
+
+  pub iterator-faithful : Faithful (lengthOf rules) (now stream) (iterator rules stream)
+  iterator-faithful = record {
+    Sound = Keeps rules stream;
+    begins = made-faithful stream rules;
+    asks = next-faithful;
+  }
+
+  -- all entries hand out the defined walk
+  pub reads : Reads rules stream (walkOf (lengthOf rules) (now stream) .cmds) (walkOf (lengthOf rules) (now stream) .ending)
+  reads = record {
+    by-steps = hands-out (lengthOf rules) (now stream) (steps rules stream) (steps-faithful rules stream);
+    by-iterator = hands-out (lengthOf rules) (now stream) (iterator rules stream) iterator-faithful;
+    typed-up = λ e. subst (λ (r : Rules). HandsOut (uplinkSteps stream) (walkOf (lengthOf r) (now stream) .cmds) (walkOf (lengthOf r) (now stream) .ending)) (sym e)
+        (hands-out (lengthOf sentUp) (now stream) (uplinkSteps stream) (uplink-faithful stream));
+    typed-down = λ e. subst (λ (r : Rules). HandsOut (downlinkSteps stream) (walkOf (lengthOf r) (now stream) .cmds) (walkOf (lengthOf r) (now stream) .ending)) (sym e)
+        (hands-out (lengthOf sentDown) (now stream) (downlinkSteps stream) (downlink-faithful stream));
+    whole = λ w g. g .1 .1;
+  }

@@ -1,0 +1,126 @@
+-- What a reader of a stream is handed out, through each of the public entries: all that their contracts admit (RULES, D3).
+use Prim.Native.Nat.{ℕ, _+_}
+use mathlib.Core.List.{List, [], _∷_, _++_}
+use mathlib.Core.Path.{_≡_}
+use lib.ListN.{length}
+use denote.Ref.{RefT, now}
+use contract.Lifetimes.{Lfts}
+use Rattle.table.specs.Answers.{Answer, given, refused}
+use Rattle.table.specs.declared.rules.Rules.{Rules}
+use Rattle.payloads.specs.Commands.{sentUp, sentDown}
+use Rattle.walk.specs.Command.{uplinkCmd}
+use Rattle.walk.specs.Part.{Part}
+use Rattle.walk.specs.Ownership.{offsetOf}
+use Rattle.walk.specs.Step.{Found, ended, command, stopped, Heading, firstOf, retold, inNumbers}
+use Rattle.walk.specs.Told.{toldStep, toldUplinkStep, toldDownlinkStep, toldWalk}
+use Rattle.walk.specs.Walk.{Cmd, Placed, Ending, placeOf, bare}
+use Rattle.walk.specs.declared.step.Step.{Step}
+use Rattle.walk.specs.declared.command.UplinkStep.{UplinkStep}
+use Rattle.walk.specs.declared.command.DownlinkStep.{DownlinkStep}
+use Rattle.walk.specs.declared.whole.WalkEnd.{WalkEnd}
+use Rattle.lent.specs.declared.iterator.MacCommandIterator.{MacCommandIterator}
+use Rattle.lent.specs.Iterator.{movedTo}
+use Rattle.walk.proofs.step.step_at.Reads as step-at
+use Rattle.walk.proofs.step.payload_at.Reads as payload-at
+use Rattle.walk.proofs.command.uplink_at.Reads as uplink-at
+use Rattle.walk.proofs.command.downlink_at.Reads as downlink-at
+use Rattle.walk.proofs.whole.walk.Reads as walk
+use Rattle.lent.proofs.iterator.MacCommandIterator.new as new
+use Rattle.lent.proofs.iterator.MacCommandIterator.next as next
+use Rattle.lent.proofs.iterator.parse_uplink_mac_commands as parse-uplink
+use Rattle.lent.proofs.iterator.parse_downlink_mac_commands as parse-downlink
+use Rattle.claims.specs.Outcomes.{Gives, Admits}
+
+-- a way to read a stream: states, those to begin in, what may be answered in a state and the state then, and the offset of a state
+pub record Front : Type 3 where
+  pub State : Type 0
+  pub begin : State → Type 2
+  pub ask : State → Answer (Found Cmd) → State → Type 2
+  pub offset : State → ℕ
+
+-- ---- the entries
+
+-- a command in numbers, with the payload that was shown of it
+abbrev pub withPayload : Answer (Found Heading) → List ℕ → Answer (Found Cmd)
+withPayload a payload = retold (λ (h : Heading). record { cid = h .cid; body = payload }) a
+
+-- who reads by offsets begins at 0, goes on behind a command, and stays where there is none
+abbrev pub onward : Answer (Found Cmd) → ℕ → ℕ
+onward a at = movedTo (inNumbers a) at
+
+pub record AtStart (at : ℕ) : Type 2 where
+  pub zero : at ≡ 0
+
+-- `step_at`, and `payload_at` for the payload
+pub data StepAsked (rules : Rules) (stream : RefT (List ℕ)) : ℕ → Answer (Found Cmd) → ℕ → Type 2 where
+  asked : (at : ℕ) (r : Step) (p : RefT (List ℕ)) → Gives step-at.Post (rules, (stream, (at, tt))) r → Gives payload-at.Post (rules, (stream, (at, tt))) p
+      → StepAsked rules stream at (withPayload (toldStep r) (now p)) (onward (withPayload (toldStep r) (now p)) at)
+
+abbrev pub steps : Rules → RefT (List ℕ) → Front
+steps rules stream = record { State = ℕ; begin = AtStart; ask = StepAsked rules stream; offset = λ at. at }
+
+-- `uplink_at`
+pub data UplinkAsked (stream : RefT (List ℕ)) : ℕ → Answer (Found Cmd) → ℕ → Type 2 where
+  asked : (at : ℕ) (r : UplinkStep) → Gives uplink-at.Post (stream, (at, tt)) r → UplinkAsked stream at (toldUplinkStep r) (onward (toldUplinkStep r) at)
+
+abbrev pub uplinkSteps : RefT (List ℕ) → Front
+uplinkSteps stream = record { State = ℕ; begin = AtStart; ask = UplinkAsked stream; offset = λ at. at }
+
+-- `downlink_at`
+pub data DownlinkAsked (stream : RefT (List ℕ)) : ℕ → Answer (Found Cmd) → ℕ → Type 2 where
+  asked : (at : ℕ) (r : DownlinkStep) → Gives downlink-at.Post (stream, (at, tt)) r → DownlinkAsked stream at (toldDownlinkStep r) (onward (toldDownlinkStep r) at)
+
+abbrev pub downlinkSteps : RefT (List ℕ) → Front
+downlinkSteps stream = record { State = ℕ; begin = AtStart; ask = DownlinkAsked stream; offset = λ at. at }
+
+-- `MacCommandIterator`: made by `new` or by a parse function, asked by `next`, with `payload_at` for the payload
+pub data Made (stream : RefT (List ℕ)) : Rules → MacCommandIterator → Type 2 where
+  by-new : {rules : Rules} {it : MacCommandIterator} (κs : Lfts 1) (exit : _) → Admits new.ended (λ M 𝓤. new.clauses 𝓤) κs (stream, (rules, tt)) it exit → Made stream rules it
+  parsed-up : {it : MacCommandIterator} (κs : Lfts 1) (exit : _) → Admits parse-uplink.ended (λ M 𝓤. parse-uplink.clauses 𝓤) κs (stream, tt) it exit → Made stream sentUp it
+  parsed-down : {it : MacCommandIterator} (κs : Lfts 1) (exit : _) → Admits parse-downlink.ended (λ M 𝓤. parse-downlink.clauses 𝓤) κs (stream, tt) it exit → Made stream sentDown it
+
+pub data NextAsked : MacCommandIterator → Answer (Found Cmd) → MacCommandIterator → Type 2 where
+  asked : (it : RefT MacCommandIterator) (r : Step) (p : RefT (List ℕ)) (κs : Lfts 2) (exit : RefT MacCommandIterator × Unit)
+      → Admits next.ended (λ M 𝓤. next.clauses 𝓤) κs (it, tt) r exit
+      → Gives payload-at.Post (now it .rules, (now it .«data», (now it .index, tt))) p
+      → NextAsked (now it) (withPayload (toldStep r) (now p)) (now (exit .0))
+
+abbrev pub iterator : Rules → RefT (List ℕ) → Front
+iterator rules stream = record { State = MacCommandIterator; begin = Made stream rules; ask = NextAsked; offset = λ it. it .index }
+
+-- ---- what is handed out
+
+abbrev pub NoCommand : Answer (Found Cmd) → Type 0
+NoCommand (given (command c next)) = ⊥
+NoCommand (given ended) = Unit
+NoCommand (given (stopped n at)) = Unit
+NoCommand (refused n) = Unit
+
+module _ (F : Front) where
+  -- asked again and again, the entry has handed out these commands, and stands so
+  pub data Run : F .State → List Cmd → Type 2 where
+    begun : (st : F .State) → F .begin st → Run st []
+    handed : (st st' : F .State) (cs : List Cmd) (c : Cmd) (next : ℕ) → Run st cs → F .ask st (given (command c next)) st' → Run st' (cs ++ (c ∷ []))
+    none-handed : (st st' : F .State) (cs : List Cmd) (a : Answer (Found Cmd)) → Run st cs → F .ask st a st' → NoCommand a → Run st' cs
+
+  -- between the commands of a list that were handed out and those to come: it stands at the first of these, or at the ending, and whatever is
+  -- answered is that
+  pub record Between (cmds : List Placed) (ending : Ending) (st : F .State) (out : List Cmd) : Type 2 where
+    pub before : List Placed
+    pub coming : List Placed
+    pub parted : cmds ≡ before ++ coming
+    pub handed-out : out ≡ bare before
+    pub stands : F .offset st ≡ offsetOf coming ending
+    pub answered : (a : Answer (Found Cmd)) (st' : F .State) → F .ask st a st' → a ≡ given (firstOf coming ending)
+
+  -- exactly these commands are handed out, each at its offset, and then this ending for ever
+  abbrev pub HandsOut : List Placed → Ending → Type 2
+  HandsOut cmds ending = (st : F .State) (out : List Cmd) → Run st out → Between cmds ending st out
+
+-- the same of all entries, and the whole walk counts the commands and tells the ending
+pub record Reads (rules : Rules) (stream : RefT (List ℕ)) (cmds : List Placed) (ending : Ending) : Type 2 where
+  pub by-steps : HandsOut (steps rules stream) cmds ending
+  pub by-iterator : HandsOut (iterator rules stream) cmds ending
+  pub typed-up : rules ≡ sentUp → HandsOut (uplinkSteps stream) cmds ending
+  pub typed-down : rules ≡ sentDown → HandsOut (downlinkSteps stream) cmds ending
+  pub whole : (w : WalkEnd) → Gives walk.Post (rules, (stream, tt)) w → toldWalk w ≡ (given ending, length cmds)

@@ -1,0 +1,95 @@
+-- Each byte has one owner (RULES: D3a to D3c), said of what the public entries hand out.
+use Prim.Native.Nat.{ℕ, _+_, _≤_}
+use mathlib.Core.List.{List, [], _∷_, _++_}
+use mathlib.Core.Path.{_≡_}
+use lib.ListN.{length, take, drop}
+use denote.Ref.{RefT, now}
+use Rattle.table.specs.Answers.{Answer, given}
+use Rattle.table.specs.Table.{lengthOf}
+use Rattle.table.specs.declared.rules.Rules.{Rules}
+use Rattle.payloads.specs.Commands.{sentUp, sentDown}
+use Rattle.walk.specs.Ownership.{Ends}
+use Rattle.walk.specs.Part.{shown, partOf, emptyFront}
+use Rattle.walk.specs.Step.{Found, command, Heading, firstOf}
+use Rattle.walk.specs.Told.{toldStep, toldWalk}
+use Rattle.walk.specs.Walk.{Rule, Cmd, Ending, placeOf, WellFormed, encode, size, walkOf}
+use Rattle.walk.specs.declared.step.Step.{Step}
+use Rattle.walk.specs.declared.whole.WalkEnd.{WalkEnd}
+use Rattle.walk.proofs.step.step_at.Reads as step-at
+use Rattle.walk.proofs.step.payload_at.Reads as payload-at
+use Rattle.walk.proofs.whole.walk.Reads as walk
+use Rattle.claims.specs.Handing.{Front, NoCommand, Run, Reads, steps, uplinkSteps, downlinkSteps, iterator, withPayload}
+use Rattle.claims.specs.Outcomes.{Gives}
+
+module _ (rules : Rules) (stream : RefT (List ℕ)) where
+  abbrev L : Rule
+  L = lengthOf rules
+
+  abbrev s : List ℕ
+  s = now stream
+
+  module _ (F : Front) where
+    -- D3a: the bytes before the offset are exactly the commands handed out so far, joined in order
+    pub record OwnedBefore (st : F .State) (out : List Cmd) : Type 2 where
+      pub commands : WellFormed L out
+      pub within : F .offset st ≤ length s
+      pub bytes : take (F .offset st) s ≡ encode out
+
+    abbrev pub OwnsBytes : Type 2
+    OwnsBytes = (st : F .State) (out : List Cmd) → Run F st out → OwnedBefore st out
+
+    -- D3b: what is answered and is no command is one of the three endings, at the offset where it is so. It stays, and the whole walk tells
+    -- it too, with the number of commands that were handed out
+    pub record EndsThere (st st' : F .State) (out : List Cmd) (a : Answer (Found Cmd)) : Type 2 where
+      pub ending : Ending
+      pub says : a ≡ given (firstOf [] ending)
+      pub ends : Ends L (F .offset st) (drop (F .offset st) s) ending
+      pub stays : (b : Answer (Found Cmd)) (st″ : F .State) → F .ask st' b st″ → b ≡ a
+      pub whole : (w : WalkEnd) → Gives walk.Post (rules, (stream, tt)) w → toldWalk w ≡ (given ending, length out)
+
+    abbrev pub StopsThere : Type 2
+    StopsThere = (st st' : F .State) (out : List Cmd) (a : Answer (Found Cmd)) → Run F st out → F .ask st a st' → NoCommand a → EndsThere st st' out a
+
+    -- D3c: commands whose bytes are a front of the stream. All of them were handed out first; or those handed out are the first of them, and
+    -- what is answered is the next
+    pub data Begins (cs : List Cmd) (st : F .State) (out : List Cmd) : Type 2 where
+      all-out : (more : List Cmd) → out ≡ cs ++ more → Begins cs st out
+      coming : (c : Cmd) (more : List Cmd) → cs ≡ out ++ (c ∷ more)
+          → ((a : Answer (Found Cmd)) (st' : F .State) → F .ask st a st' → a ≡ given (command c (F .offset st + size c)))
+          → Begins cs st out
+
+    abbrev pub FrontsBegin : Type 2
+    FrontsBegin = (cs : List Cmd) (rest : List ℕ) → WellFormed L cs → encode cs ++ rest ≡ s → (st : F .State) (out : List Cmd) → Run F st out → Begins cs st out
+
+    pub record OneOwnerBy : Type 2 where
+      pub a : OwnsBytes
+      pub b : StopsThere
+      pub c : FrontsBegin
+
+  -- of the whole walk alone: it ends in one of the three ways, where it says (D3b); it counts every division of a front (D3c), and no more
+  -- commands than there are bytes
+  pub record WholeWalk (w : WalkEnd) : Type 0 where
+    pub ending : Ending
+    pub count : ℕ
+    pub says : toldWalk w ≡ (given ending, count)
+    pub ends : Ends L (placeOf ending) (drop (placeOf ending) s) ending
+    pub at-least : (cs : List Cmd) (rest : List ℕ) → WellFormed L cs → encode cs ++ rest ≡ s → length cs ≤ count
+    pub at-most : count ≤ length s
+
+  -- the payload that is shown: the bytes just behind the CID, in their place in the stream, up to where the step says that the next command
+  -- is. Where the step gives no command, the stream's empty front
+  pub record PayloadShown (at : ℕ) (r : Step) (p : RefT (List ℕ)) : Type 0 where
+    pub behind : (h : Heading) (next : ℕ) → toldStep r ≡ given (command h next)
+        → (shown p ≡ partOf stream (at + 1) (h .len)) × (next ≡ at + (1 + h .len)) × (next ≤ length s)
+    pub none : NoCommand (withPayload (toldStep r) []) → shown p ≡ emptyFront stream
+
+  pub record OneOwner : Type 2 where
+    pub by-steps : OneOwnerBy (steps rules stream)
+    pub by-iterator : OneOwnerBy (iterator rules stream)
+    pub typed-up : rules ≡ sentUp → OneOwnerBy (uplinkSteps stream)
+    pub typed-down : rules ≡ sentDown → OneOwnerBy (downlinkSteps stream)
+    pub whole : (w : WalkEnd) → Gives walk.Post (rules, (stream, tt)) w → WholeWalk w
+    pub payload : (at : ℕ) (r : Step) (p : RefT (List ℕ)) → Gives step-at.Post (rules, (stream, (at, tt))) r → Gives payload-at.Post (rules, (stream, (at, tt))) p
+        → PayloadShown at r p
+    -- what is handed out is the walk that crates/walk/specs/Walk.antt defines
+    pub defined : Reads rules stream (walkOf L s .cmds) (walkOf L s .ending)
