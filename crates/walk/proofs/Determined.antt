@@ -1,12 +1,9 @@
--- Any two outcomes that a public function's contract admits are equal. A slice that is handed back is equal in its place and its bytes:
--- that is all of it but the name by which the logic tracks it, which no program sees. Assumes nothing.
-use mathlib.Core.Path.{_≡_, sym, _∙_}
-use mathlib.Core.List.{List}
-use Prim.Native.Nat.{ℕ}
-use denote.Ref.{RefT}
+-- Any two outcomes that a public function's contract admits are equal; a slice that is handed back, in its place and its bytes. Assumes
+-- nothing.
+use mathlib.Core.Path.{sym, _∙_}
 use Rattle.bits.proofs.Fixed.{Fixed}
 use Rattle.table.proofs.Told.{verdict-tells}
-use Rattle.walk.specs.Part.{shown}
+use Rattle.walk.proofs.FixedPart.{FixedPart}
 use Rattle.walk.proofs.Told.{step-tells, uplink-step-tells, downlink-step-tells, walk-tells}
 use Rattle.walk.proofs.chooser.choose_verdict.Reads as choose-verdict
 use Rattle.walk.proofs.chooser.choose.Reads as choose
@@ -16,11 +13,6 @@ use Rattle.walk.proofs.step.step_at.Reads as step-at
 use Rattle.walk.proofs.step.payload_at.Reads as payload-at
 use Rattle.walk.proofs.whole.walk_from.Reads as walk-from
 use Rattle.walk.proofs.whole.walk.Reads as walk
-
--- the part handed back is fixed
-abbrev pub FixedPart : {K A S : Type 0} → (K → A → RefT (List ℕ) → S → Type 0) → Type 0
-FixedPart {K = K} {A = A} {S = S} Post =
-    (κs : K) (args : A) (x y : RefT (List ℕ)) (exit exit' : S) → Post κs args x exit → Post κs args y exit' → shown x ≡ shown y
 
 choose-verdict-one : Fixed choose-verdict.Post
 choose-verdict-one _ _ _ _ _ _ p q = verdict-tells (p ∙ sym q)

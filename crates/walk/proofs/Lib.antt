@@ -1,6 +1,7 @@
 pub mod Cases
 pub mod Commands
 pub mod Determined
+pub mod FixedPart
 pub mod Laws
 pub mod Onward
 pub mod Ownership
