@@ -8,8 +8,7 @@ use payloads::PayloadBytes;
 use payloads::UplinkMacCommand;
 ghost use mathlib.Core.Path.{_≡_};
 ghost use Prim.Native.Nat.{_≤_};
-ghost use Rattle.table.specs.Table.{named};
-ghost use Rattle.payloads.specs.Commands.{uplinkName, uplinkBytes, downlinkName, downlinkBytes, inFive};
+ghost use Rattle.payloads.specs.Commands.{uplinkEntry, uplinkBytes, downlinkEntry, downlinkBytes, inFive};
 ghost use Rattle.creators.specs.Kinds as Kinds;
 ghost use Rattle.creators.specs.Kinds.{toldImage};
 ghost use Rattle.build.specs.Records.{heldBy, ofPayload, ofImage};
@@ -40,13 +39,13 @@ fn of_image(image: Image) -> Record
 
 impl Record {
     pub fn of_uplink(command: UplinkMacCommand) -> Record
-        ensures { λ r. ⌜ heldBy r ≡ ofPayload (named (uplinkName command) .cid) (inFive (uplinkBytes command)) ⌝ }
+        ensures { λ r. ⌜ heldBy r ≡ ofPayload (uplinkEntry command .cid) (inFive (uplinkBytes command)) ⌝ }
     {
         of_payload(command.cid(), command.bytes())
     }
 
     pub fn of_downlink(command: DownlinkMacCommand) -> Record
-        ensures { λ r. ⌜ heldBy r ≡ ofPayload (named (downlinkName command) .cid) (inFive (downlinkBytes command)) ⌝ }
+        ensures { λ r. ⌜ heldBy r ≡ ofPayload (downlinkEntry command .cid) (inFive (downlinkBytes command)) ⌝ }
     {
         of_payload(command.cid(), command.bytes())
     }

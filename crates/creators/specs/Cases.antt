@@ -22,13 +22,13 @@ pub data Case : Type 0 where
 
 abbrev pub Holds : Case → Type 0
 Holds (noMargin m) = (image : List ℕ) → marginAt image m ≡ (refused 9, image)
-Holds (nanoSeconds n (given b)) = nanoSecondsAt (newOf "DeviceTimeAns") n ≡ (accepted, named "DeviceTimeAns" .cid ∷ 0 ∷ 0 ∷ 0 ∷ 0 ∷ b ∷ [])
-Holds (nanoSeconds n (refused r)) = nanoSecondsAt (newOf "DeviceTimeAns") n ≡ (refused r, newOf "DeviceTimeAns")
+Holds (nanoSeconds n (given b)) = nanoSecondsAt (newOf (named "DeviceTimeAns")) n ≡ (accepted, named "DeviceTimeAns" .cid ∷ 0 ∷ 0 ∷ 0 ∷ 0 ∷ b ∷ [])
+Holds (nanoSeconds n (refused r)) = nanoSecondsAt (newOf (named "DeviceTimeAns")) n ≡ (refused r, newOf (named "DeviceTimeAns"))
 Holds (powerThenDwell p b dBm) =
-    (dwellAt TXParamSetupReq·downlinkDwellTime (checkedAt TXParamSetupReq·maxEirp 11 (newOf "TXParamSetupReq") p .1) ≡ named "TXParamSetupReq" .cid ∷ b ∷ [])
+    (dwellAt TXParamSetupReq·downlinkDwellTime (checkedAt TXParamSetupReq·maxEirp 11 (newOf (named "TXParamSetupReq")) p .1) ≡ named "TXParamSetupReq" .cid ∷ b ∷ [])
     × (maxEirpOf (b ∷ []) ≡ dBm)
 Holds (seconds s bytes read) =
-    (secondsAt (newOf "DeviceTimeAns") s ≡ named "DeviceTimeAns" .cid ∷ bytes ++ 0 ∷ []) × (secondsOf (bytes ++ 0 ∷ []) ≡ read)
+    (secondsAt (newOf (named "DeviceTimeAns")) s ≡ named "DeviceTimeAns" .cid ∷ bytes ++ 0 ∷ []) × (secondsOf (bytes ++ 0 ∷ []) ≡ read)
 
 abbrev pub p8 : List Case
 p8 = noMargin (negℤ (pos 33)) ∷ noMargin (pos 32) ∷ []

@@ -1,6 +1,5 @@
 -- A creator's image (document 01, "Creators"): the command's CID, then its payload, so byte i of the payload is byte 1 + i of the image.
 use Prim.Native.Nat.{ℕ, _+_, _^_}
-use Prim.Native.String.{String}
 use mathlib.Core.Bool.{Bool, cond}
 use mathlib.Core.List.{List, _∷_}
 use lib.Dec.{ltb}
@@ -8,22 +7,22 @@ use lib.ListN.{getD, set, drop, replicate}
 use lib.Seq.{paste}
 use Rattle.bits.specs.Bits.{setField}
 use Rattle.table.specs.Answers.{Consent, refused, accepted}
-use Rattle.table.specs.Table.{named}
+use Rattle.table.specs.Table.{Command}
 use Rattle.fields.specs.Places.{Place, Run}
 
--- ---- a fresh image, of the command of that name
+-- ---- a fresh image of a command
 
 -- `new`: the CID, and zeros
-abbrev pub newOf : String → List ℕ
-newOf n = named n .cid ∷ replicate (named n .size) 0
+abbrev pub newOf : Command → List ℕ
+newOf c = c .cid ∷ replicate (c .size) 0
 
 -- `default`, of a command with a payload: zeros, the first byte too
-abbrev pub defaultOf : String → List ℕ
-defaultOf n = replicate (1 + named n .size) 0
+abbrev pub defaultOf : Command → List ℕ
+defaultOf c = replicate (1 + c .size) 0
 
 -- the length of either
-abbrev pub imageLength : String → ℕ
-imageLength n = 1 + named n .size
+abbrev pub imageLength : Command → ℕ
+imageLength c = 1 + c .size
 
 -- ---- what a setter writes
 

@@ -53,7 +53,7 @@ impl DevStatusReqCreator {
     }
 
     pub fn build(self) -> [u8; 1]
-        ensures { λ r. ⌜ r ≡ newOf "DevStatusReq" ⌝ }
+        ensures { λ r. ⌜ r ≡ newOf (named "DevStatusReq") ⌝ }
     {
         [0x06]
     }
@@ -66,7 +66,7 @@ impl DevStatusReqCreator {
 
     // The image's length.
     pub fn len(self) -> usize
-        ensures { λ r. ⌜ r ≡ imageLength "DevStatusReq" ⌝ }
+        ensures { λ r. ⌜ r ≡ imageLength (named "DevStatusReq") ⌝ }
     {
         1
     }
@@ -84,14 +84,14 @@ pub struct DevStatusAnsCreatorAnswer {
 
 impl DevStatusAnsCreator {
     pub fn new() -> DevStatusAnsCreator
-        ensures { λ r. ⌜ r .«data» ≡ newOf "DevStatusAns" ⌝ }
+        ensures { λ r. ⌜ r .«data» ≡ newOf (named "DevStatusAns") ⌝ }
     {
         DevStatusAnsCreator { data: [0x06, 0, 0] }
     }
 
     // Not filled in: even the CID is 0.
     pub fn default() -> DevStatusAnsCreator
-        ensures { λ r. ⌜ r .«data» ≡ defaultOf "DevStatusAns" ⌝ }
+        ensures { λ r. ⌜ r .«data» ≡ defaultOf (named "DevStatusAns") ⌝ }
     {
         DevStatusAnsCreator { data: [0; 3] }
     }
@@ -110,7 +110,7 @@ impl DevStatusAnsCreator {
 
     // The image's length.
     pub fn len(self) -> usize
-        ensures { λ r. ⌜ r ≡ imageLength "DevStatusAns" ⌝ }
+        ensures { λ r. ⌜ r ≡ imageLength (named "DevStatusAns") ⌝ }
     {
         3
     }

@@ -60,7 +60,7 @@ impl DeviceTimeReqCreator {
     }
 
     pub fn build(self) -> [u8; 1]
-        ensures { λ r. ⌜ r ≡ newOf "DeviceTimeReq" ⌝ }
+        ensures { λ r. ⌜ r ≡ newOf (named "DeviceTimeReq") ⌝ }
     {
         [0x0D]
     }
@@ -73,7 +73,7 @@ impl DeviceTimeReqCreator {
 
     // The image's length.
     pub fn len(self) -> usize
-        ensures { λ r. ⌜ r ≡ imageLength "DeviceTimeReq" ⌝ }
+        ensures { λ r. ⌜ r ≡ imageLength (named "DeviceTimeReq") ⌝ }
     {
         1
     }
@@ -91,7 +91,7 @@ pub struct DeviceTimeAnsCreatorAnswer {
 
 impl DeviceTimeAnsCreator {
     pub fn new() -> DeviceTimeAnsCreator
-        ensures { λ r. ⌜ r .«data» ≡ newOf "DeviceTimeAns" ⌝ }
+        ensures { λ r. ⌜ r .«data» ≡ newOf (named "DeviceTimeAns") ⌝ }
     {
         DeviceTimeAnsCreator {
             data: [0x0D, 0, 0, 0, 0, 0],
@@ -100,7 +100,7 @@ impl DeviceTimeAnsCreator {
 
     // Not filled in: even the CID is 0.
     pub fn default() -> DeviceTimeAnsCreator
-        ensures { λ r. ⌜ r .«data» ≡ defaultOf "DeviceTimeAns" ⌝ }
+        ensures { λ r. ⌜ r .«data» ≡ defaultOf (named "DeviceTimeAns") ⌝ }
     {
         DeviceTimeAnsCreator { data: [0; 6] }
     }
@@ -119,7 +119,7 @@ impl DeviceTimeAnsCreator {
 
     // The image's length.
     pub fn len(self) -> usize
-        ensures { λ r. ⌜ r ≡ imageLength "DeviceTimeAns" ⌝ }
+        ensures { λ r. ⌜ r ≡ imageLength (named "DeviceTimeAns") ⌝ }
     {
         6
     }

@@ -15,7 +15,7 @@ pub struct DlChannelReqCreator {
 
 impl DlChannelReqCreator {
     pub fn new() -> DlChannelReqCreator
-        ensures { λ r. ⌜ r .«data» ≡ newOf "DlChannelReq" ⌝ }
+        ensures { λ r. ⌜ r .«data» ≡ newOf (named "DlChannelReq") ⌝ }
     {
         DlChannelReqCreator {
             data: [0x0A, 0, 0, 0, 0],
@@ -24,7 +24,7 @@ impl DlChannelReqCreator {
 
     // Not filled in: even the CID is 0.
     pub fn default() -> DlChannelReqCreator
-        ensures { λ r. ⌜ r .«data» ≡ defaultOf "DlChannelReq" ⌝ }
+        ensures { λ r. ⌜ r .«data» ≡ defaultOf (named "DlChannelReq") ⌝ }
     {
         DlChannelReqCreator { data: [0; 5] }
     }
@@ -43,7 +43,7 @@ impl DlChannelReqCreator {
 
     // The image's length.
     pub fn len(self) -> usize
-        ensures { λ r. ⌜ r ≡ imageLength "DlChannelReq" ⌝ }
+        ensures { λ r. ⌜ r ≡ imageLength (named "DlChannelReq") ⌝ }
     {
         5
     }
@@ -72,14 +72,14 @@ pub struct DlChannelAnsCreator {
 
 impl DlChannelAnsCreator {
     pub fn new() -> DlChannelAnsCreator
-        ensures { λ r. ⌜ r .«data» ≡ newOf "DlChannelAns" ⌝ }
+        ensures { λ r. ⌜ r .«data» ≡ newOf (named "DlChannelAns") ⌝ }
     {
         DlChannelAnsCreator { data: [0x0A, 0] }
     }
 
     // Not filled in: even the CID is 0.
     pub fn default() -> DlChannelAnsCreator
-        ensures { λ r. ⌜ r .«data» ≡ defaultOf "DlChannelAns" ⌝ }
+        ensures { λ r. ⌜ r .«data» ≡ defaultOf (named "DlChannelAns") ⌝ }
     {
         DlChannelAnsCreator { data: [0; 2] }
     }
@@ -98,7 +98,7 @@ impl DlChannelAnsCreator {
 
     // The image's length.
     pub fn len(self) -> usize
-        ensures { λ r. ⌜ r ≡ imageLength "DlChannelAns" ⌝ }
+        ensures { λ r. ⌜ r ≡ imageLength (named "DlChannelAns") ⌝ }
     {
         2
     }

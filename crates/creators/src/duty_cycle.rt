@@ -10,14 +10,14 @@ pub struct DutyCycleReqCreator {
 
 impl DutyCycleReqCreator {
     pub fn new() -> DutyCycleReqCreator
-        ensures { λ r. ⌜ r .«data» ≡ newOf "DutyCycleReq" ⌝ }
+        ensures { λ r. ⌜ r .«data» ≡ newOf (named "DutyCycleReq") ⌝ }
     {
         DutyCycleReqCreator { data: [0x04, 0] }
     }
 
     // Not filled in: even the CID is 0.
     pub fn default() -> DutyCycleReqCreator
-        ensures { λ r. ⌜ r .«data» ≡ defaultOf "DutyCycleReq" ⌝ }
+        ensures { λ r. ⌜ r .«data» ≡ defaultOf (named "DutyCycleReq") ⌝ }
     {
         DutyCycleReqCreator { data: [0; 2] }
     }
@@ -36,7 +36,7 @@ impl DutyCycleReqCreator {
 
     // The image's length.
     pub fn len(self) -> usize
-        ensures { λ r. ⌜ r ≡ imageLength "DutyCycleReq" ⌝ }
+        ensures { λ r. ⌜ r ≡ imageLength (named "DutyCycleReq") ⌝ }
     {
         2
     }
@@ -67,7 +67,7 @@ impl DutyCycleAnsCreator {
     }
 
     pub fn build(self) -> [u8; 1]
-        ensures { λ r. ⌜ r ≡ newOf "DutyCycleAns" ⌝ }
+        ensures { λ r. ⌜ r ≡ newOf (named "DutyCycleAns") ⌝ }
     {
         [0x04]
     }
@@ -80,7 +80,7 @@ impl DutyCycleAnsCreator {
 
     // The image's length.
     pub fn len(self) -> usize
-        ensures { λ r. ⌜ r ≡ imageLength "DutyCycleAns" ⌝ }
+        ensures { λ r. ⌜ r ≡ imageLength (named "DutyCycleAns") ⌝ }
     {
         1
     }

@@ -126,7 +126,7 @@ fn uplink(kind: UplinkKind, image: &[u8]) -> UplinkMacCommandCreator
 
 impl UplinkMacCommandCreator {
     pub fn from_link_check_req(_creator: LinkCheckReqCreator) -> UplinkMacCommandCreator
-        ensures { λ r. ⌜ toldUplink r ≡ beside (named "LinkCheckReq") (newOf "LinkCheckReq") ⌝ }
+        ensures { λ r. ⌜ toldUplink r ≡ beside (named "LinkCheckReq") (newOf (named "LinkCheckReq")) ⌝ }
     {
         let data = [0x02];
         uplink(UplinkKind::LinkCheckReq, &data)
@@ -140,7 +140,7 @@ impl UplinkMacCommandCreator {
     }
 
     pub fn from_duty_cycle_ans(_creator: DutyCycleAnsCreator) -> UplinkMacCommandCreator
-        ensures { λ r. ⌜ toldUplink r ≡ beside (named "DutyCycleAns") (newOf "DutyCycleAns") ⌝ }
+        ensures { λ r. ⌜ toldUplink r ≡ beside (named "DutyCycleAns") (newOf (named "DutyCycleAns")) ⌝ }
     {
         let data = [0x04];
         uplink(UplinkKind::DutyCycleAns, &data)
@@ -168,14 +168,14 @@ impl UplinkMacCommandCreator {
     }
 
     pub fn from_rx_timing_setup_ans(_creator: RXTimingSetupAnsCreator) -> UplinkMacCommandCreator
-        ensures { λ r. ⌜ toldUplink r ≡ beside (named "RXTimingSetupAns") (newOf "RXTimingSetupAns") ⌝ }
+        ensures { λ r. ⌜ toldUplink r ≡ beside (named "RXTimingSetupAns") (newOf (named "RXTimingSetupAns")) ⌝ }
     {
         let data = [0x08];
         uplink(UplinkKind::RXTimingSetupAns, &data)
     }
 
     pub fn from_tx_param_setup_ans(_creator: TXParamSetupAnsCreator) -> UplinkMacCommandCreator
-        ensures { λ r. ⌜ toldUplink r ≡ beside (named "TXParamSetupAns") (newOf "TXParamSetupAns") ⌝ }
+        ensures { λ r. ⌜ toldUplink r ≡ beside (named "TXParamSetupAns") (newOf (named "TXParamSetupAns")) ⌝ }
     {
         let data = [0x09];
         uplink(UplinkKind::TXParamSetupAns, &data)
@@ -189,7 +189,7 @@ impl UplinkMacCommandCreator {
     }
 
     pub fn from_device_time_req(_creator: DeviceTimeReqCreator) -> UplinkMacCommandCreator
-        ensures { λ r. ⌜ toldUplink r ≡ beside (named "DeviceTimeReq") (newOf "DeviceTimeReq") ⌝ }
+        ensures { λ r. ⌜ toldUplink r ≡ beside (named "DeviceTimeReq") (newOf (named "DeviceTimeReq")) ⌝ }
     {
         let data = [0x0D];
         uplink(UplinkKind::DeviceTimeReq, &data)
@@ -320,7 +320,7 @@ impl DownlinkMacCommandCreator {
     }
 
     pub fn from_dev_status_req(_creator: DevStatusReqCreator) -> DownlinkMacCommandCreator
-        ensures { λ r. ⌜ toldDownlink r ≡ beside (named "DevStatusReq") (newOf "DevStatusReq") ⌝ }
+        ensures { λ r. ⌜ toldDownlink r ≡ beside (named "DevStatusReq") (newOf (named "DevStatusReq")) ⌝ }
     {
         let data = [0x06];
         downlink(DownlinkKind::DevStatusReq, &data)

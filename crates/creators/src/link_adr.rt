@@ -42,7 +42,7 @@ pub struct LinkADRReqCreatorAnswer {
 
 impl LinkADRReqCreator {
     pub fn new() -> LinkADRReqCreator
-        ensures { λ r. ⌜ r .«data» ≡ newOf "LinkADRReq" ⌝ }
+        ensures { λ r. ⌜ r .«data» ≡ newOf (named "LinkADRReq") ⌝ }
     {
         LinkADRReqCreator {
             data: [0x03, 0, 0, 0, 0],
@@ -51,7 +51,7 @@ impl LinkADRReqCreator {
 
     // Not filled in: even the CID is 0.
     pub fn default() -> LinkADRReqCreator
-        ensures { λ r. ⌜ r .«data» ≡ defaultOf "LinkADRReq" ⌝ }
+        ensures { λ r. ⌜ r .«data» ≡ defaultOf (named "LinkADRReq") ⌝ }
     {
         LinkADRReqCreator { data: [0; 5] }
     }
@@ -70,7 +70,7 @@ impl LinkADRReqCreator {
 
     // The image's length.
     pub fn len(self) -> usize
-        ensures { λ r. ⌜ r ≡ imageLength "LinkADRReq" ⌝ }
+        ensures { λ r. ⌜ r ≡ imageLength (named "LinkADRReq") ⌝ }
     {
         5
     }
@@ -122,14 +122,14 @@ pub struct LinkADRAnsCreator {
 
 impl LinkADRAnsCreator {
     pub fn new() -> LinkADRAnsCreator
-        ensures { λ r. ⌜ r .«data» ≡ newOf "LinkADRAns" ⌝ }
+        ensures { λ r. ⌜ r .«data» ≡ newOf (named "LinkADRAns") ⌝ }
     {
         LinkADRAnsCreator { data: [0x03, 0] }
     }
 
     // Not filled in: even the CID is 0.
     pub fn default() -> LinkADRAnsCreator
-        ensures { λ r. ⌜ r .«data» ≡ defaultOf "LinkADRAns" ⌝ }
+        ensures { λ r. ⌜ r .«data» ≡ defaultOf (named "LinkADRAns") ⌝ }
     {
         LinkADRAnsCreator { data: [0; 2] }
     }
@@ -148,7 +148,7 @@ impl LinkADRAnsCreator {
 
     // The image's length.
     pub fn len(self) -> usize
-        ensures { λ r. ⌜ r ≡ imageLength "LinkADRAns" ⌝ }
+        ensures { λ r. ⌜ r ≡ imageLength (named "LinkADRAns") ⌝ }
     {
         2
     }

@@ -20,7 +20,7 @@ impl LinkCheckReqCreator {
     }
 
     pub fn build(self) -> [u8; 1]
-        ensures { λ r. ⌜ r ≡ newOf "LinkCheckReq" ⌝ }
+        ensures { λ r. ⌜ r ≡ newOf (named "LinkCheckReq") ⌝ }
     {
         [0x02]
     }
@@ -33,7 +33,7 @@ impl LinkCheckReqCreator {
 
     // The image's length.
     pub fn len(self) -> usize
-        ensures { λ r. ⌜ r ≡ imageLength "LinkCheckReq" ⌝ }
+        ensures { λ r. ⌜ r ≡ imageLength (named "LinkCheckReq") ⌝ }
     {
         1
     }
@@ -45,14 +45,14 @@ pub struct LinkCheckAnsCreator {
 
 impl LinkCheckAnsCreator {
     pub fn new() -> LinkCheckAnsCreator
-        ensures { λ r. ⌜ r .«data» ≡ newOf "LinkCheckAns" ⌝ }
+        ensures { λ r. ⌜ r .«data» ≡ newOf (named "LinkCheckAns") ⌝ }
     {
         LinkCheckAnsCreator { data: [0x02, 0, 0] }
     }
 
     // Not filled in: even the CID is 0.
     pub fn default() -> LinkCheckAnsCreator
-        ensures { λ r. ⌜ r .«data» ≡ defaultOf "LinkCheckAns" ⌝ }
+        ensures { λ r. ⌜ r .«data» ≡ defaultOf (named "LinkCheckAns") ⌝ }
     {
         LinkCheckAnsCreator { data: [0; 3] }
     }
@@ -71,7 +71,7 @@ impl LinkCheckAnsCreator {
 
     // The image's length.
     pub fn len(self) -> usize
-        ensures { λ r. ⌜ r ≡ imageLength "LinkCheckAns" ⌝ }
+        ensures { λ r. ⌜ r ≡ imageLength (named "LinkCheckAns") ⌝ }
     {
         3
     }

@@ -25,7 +25,7 @@ pub struct NewChannelReqCreator {
 
 impl NewChannelReqCreator {
     pub fn new() -> NewChannelReqCreator
-        ensures { λ r. ⌜ r .«data» ≡ newOf "NewChannelReq" ⌝ }
+        ensures { λ r. ⌜ r .«data» ≡ newOf (named "NewChannelReq") ⌝ }
     {
         NewChannelReqCreator {
             data: [0x07, 0, 0, 0, 0, 0],
@@ -34,7 +34,7 @@ impl NewChannelReqCreator {
 
     // Not filled in: even the CID is 0.
     pub fn default() -> NewChannelReqCreator
-        ensures { λ r. ⌜ r .«data» ≡ defaultOf "NewChannelReq" ⌝ }
+        ensures { λ r. ⌜ r .«data» ≡ defaultOf (named "NewChannelReq") ⌝ }
     {
         NewChannelReqCreator { data: [0; 6] }
     }
@@ -53,7 +53,7 @@ impl NewChannelReqCreator {
 
     // The image's length.
     pub fn len(self) -> usize
-        ensures { λ r. ⌜ r ≡ imageLength "NewChannelReq" ⌝ }
+        ensures { λ r. ⌜ r ≡ imageLength (named "NewChannelReq") ⌝ }
     {
         6
     }
@@ -90,14 +90,14 @@ pub struct NewChannelAnsCreator {
 
 impl NewChannelAnsCreator {
     pub fn new() -> NewChannelAnsCreator
-        ensures { λ r. ⌜ r .«data» ≡ newOf "NewChannelAns" ⌝ }
+        ensures { λ r. ⌜ r .«data» ≡ newOf (named "NewChannelAns") ⌝ }
     {
         NewChannelAnsCreator { data: [0x07, 0] }
     }
 
     // Not filled in: even the CID is 0.
     pub fn default() -> NewChannelAnsCreator
-        ensures { λ r. ⌜ r .«data» ≡ defaultOf "NewChannelAns" ⌝ }
+        ensures { λ r. ⌜ r .«data» ≡ defaultOf (named "NewChannelAns") ⌝ }
     {
         NewChannelAnsCreator { data: [0; 2] }
     }
@@ -116,7 +116,7 @@ impl NewChannelAnsCreator {
 
     // The image's length.
     pub fn len(self) -> usize
-        ensures { λ r. ⌜ r ≡ imageLength "NewChannelAns" ⌝ }
+        ensures { λ r. ⌜ r ≡ imageLength (named "NewChannelAns") ⌝ }
     {
         2
     }

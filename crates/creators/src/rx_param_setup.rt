@@ -25,7 +25,7 @@ pub struct RXParamSetupReqCreator {
 
 impl RXParamSetupReqCreator {
     pub fn new() -> RXParamSetupReqCreator
-        ensures { λ r. ⌜ r .«data» ≡ newOf "RXParamSetupReq" ⌝ }
+        ensures { λ r. ⌜ r .«data» ≡ newOf (named "RXParamSetupReq") ⌝ }
     {
         RXParamSetupReqCreator {
             data: [0x05, 0, 0, 0, 0],
@@ -34,7 +34,7 @@ impl RXParamSetupReqCreator {
 
     // Not filled in: even the CID is 0.
     pub fn default() -> RXParamSetupReqCreator
-        ensures { λ r. ⌜ r .«data» ≡ defaultOf "RXParamSetupReq" ⌝ }
+        ensures { λ r. ⌜ r .«data» ≡ defaultOf (named "RXParamSetupReq") ⌝ }
     {
         RXParamSetupReqCreator { data: [0; 5] }
     }
@@ -53,7 +53,7 @@ impl RXParamSetupReqCreator {
 
     // The image's length.
     pub fn len(self) -> usize
-        ensures { λ r. ⌜ r ≡ imageLength "RXParamSetupReq" ⌝ }
+        ensures { λ r. ⌜ r ≡ imageLength (named "RXParamSetupReq") ⌝ }
     {
         5
     }
@@ -81,14 +81,14 @@ pub struct RXParamSetupAnsCreator {
 
 impl RXParamSetupAnsCreator {
     pub fn new() -> RXParamSetupAnsCreator
-        ensures { λ r. ⌜ r .«data» ≡ newOf "RXParamSetupAns" ⌝ }
+        ensures { λ r. ⌜ r .«data» ≡ newOf (named "RXParamSetupAns") ⌝ }
     {
         RXParamSetupAnsCreator { data: [0x05, 0] }
     }
 
     // Not filled in: even the CID is 0.
     pub fn default() -> RXParamSetupAnsCreator
-        ensures { λ r. ⌜ r .«data» ≡ defaultOf "RXParamSetupAns" ⌝ }
+        ensures { λ r. ⌜ r .«data» ≡ defaultOf (named "RXParamSetupAns") ⌝ }
     {
         RXParamSetupAnsCreator { data: [0; 2] }
     }
@@ -107,7 +107,7 @@ impl RXParamSetupAnsCreator {
 
     // The image's length.
     pub fn len(self) -> usize
-        ensures { λ r. ⌜ r ≡ imageLength "RXParamSetupAns" ⌝ }
+        ensures { λ r. ⌜ r ≡ imageLength (named "RXParamSetupAns") ⌝ }
     {
         2
     }

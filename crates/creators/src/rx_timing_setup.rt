@@ -19,14 +19,14 @@ pub struct RXTimingSetupReqCreatorAnswer {
 
 impl RXTimingSetupReqCreator {
     pub fn new() -> RXTimingSetupReqCreator
-        ensures { λ r. ⌜ r .«data» ≡ newOf "RXTimingSetupReq" ⌝ }
+        ensures { λ r. ⌜ r .«data» ≡ newOf (named "RXTimingSetupReq") ⌝ }
     {
         RXTimingSetupReqCreator { data: [0x08, 0] }
     }
 
     // Not filled in: even the CID is 0.
     pub fn default() -> RXTimingSetupReqCreator
-        ensures { λ r. ⌜ r .«data» ≡ defaultOf "RXTimingSetupReq" ⌝ }
+        ensures { λ r. ⌜ r .«data» ≡ defaultOf (named "RXTimingSetupReq") ⌝ }
     {
         RXTimingSetupReqCreator { data: [0; 2] }
     }
@@ -45,7 +45,7 @@ impl RXTimingSetupReqCreator {
 
     // The image's length.
     pub fn len(self) -> usize
-        ensures { λ r. ⌜ r ≡ imageLength "RXTimingSetupReq" ⌝ }
+        ensures { λ r. ⌜ r ≡ imageLength (named "RXTimingSetupReq") ⌝ }
     {
         2
     }
@@ -79,7 +79,7 @@ impl RXTimingSetupAnsCreator {
     }
 
     pub fn build(self) -> [u8; 1]
-        ensures { λ r. ⌜ r ≡ newOf "RXTimingSetupAns" ⌝ }
+        ensures { λ r. ⌜ r ≡ newOf (named "RXTimingSetupAns") ⌝ }
     {
         [0x08]
     }
@@ -92,7 +92,7 @@ impl RXTimingSetupAnsCreator {
 
     // The image's length.
     pub fn len(self) -> usize
-        ensures { λ r. ⌜ r ≡ imageLength "RXTimingSetupAns" ⌝ }
+        ensures { λ r. ⌜ r ≡ imageLength (named "RXTimingSetupAns") ⌝ }
     {
         1
     }

@@ -33,14 +33,14 @@ pub struct TXParamSetupReqCreatorAnswer {
 
 impl TXParamSetupReqCreator {
     pub fn new() -> TXParamSetupReqCreator
-        ensures { λ r. ⌜ r .«data» ≡ newOf "TXParamSetupReq" ⌝ }
+        ensures { λ r. ⌜ r .«data» ≡ newOf (named "TXParamSetupReq") ⌝ }
     {
         TXParamSetupReqCreator { data: [0x09, 0] }
     }
 
     // Not filled in: even the CID is 0.
     pub fn default() -> TXParamSetupReqCreator
-        ensures { λ r. ⌜ r .«data» ≡ defaultOf "TXParamSetupReq" ⌝ }
+        ensures { λ r. ⌜ r .«data» ≡ defaultOf (named "TXParamSetupReq") ⌝ }
     {
         TXParamSetupReqCreator { data: [0; 2] }
     }
@@ -59,7 +59,7 @@ impl TXParamSetupReqCreator {
 
     // The image's length.
     pub fn len(self) -> usize
-        ensures { λ r. ⌜ r ≡ imageLength "TXParamSetupReq" ⌝ }
+        ensures { λ r. ⌜ r ≡ imageLength (named "TXParamSetupReq") ⌝ }
     {
         2
     }
@@ -109,7 +109,7 @@ impl TXParamSetupAnsCreator {
     }
 
     pub fn build(self) -> [u8; 1]
-        ensures { λ r. ⌜ r ≡ newOf "TXParamSetupAns" ⌝ }
+        ensures { λ r. ⌜ r ≡ newOf (named "TXParamSetupAns") ⌝ }
     {
         [0x09]
     }
@@ -122,7 +122,7 @@ impl TXParamSetupAnsCreator {
 
     // The image's length.
     pub fn len(self) -> usize
-        ensures { λ r. ⌜ r ≡ imageLength "TXParamSetupAns" ⌝ }
+        ensures { λ r. ⌜ r ≡ imageLength (named "TXParamSetupAns") ⌝ }
     {
         1
     }

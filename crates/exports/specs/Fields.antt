@@ -1,11 +1,10 @@
 -- What the readers of the commands that a device is sent say of a stream: every field of every command once, and their sum.
 use Prim.Native.Nat.{ℕ, _+_, _%_}
-use Prim.Native.String.{String}
 use mathlib.Core.Bool.{cond}
 use mathlib.Core.List.{List, [], _∷_, _++_}
 use lib.Dec.{eqb}
 use Rattle.bits.specs.Bits.{bitOf}
-use Rattle.table.specs.Table.{lengthOf, named}
+use Rattle.table.specs.Table.{Command, lengthOf, named}
 use Rattle.fields.specs.Frequency.{hertz}
 use Rattle.fields.specs.Places.{
   numberAt,
@@ -78,30 +77,30 @@ DlChannelReq·says p = numberAt DlChannelReq·channelIndex p ∷ hertz (bytesAt 
 abbrev pub DeviceTimeAns·says : List ℕ → List ℕ
 DeviceTimeAns·says p = secondsOf p ∷ nanoSecondsOf p ∷ []
 
--- ---- of a command, by its name in the table. DevStatusReq has no field
+-- ---- of a command of the table. DevStatusReq has no field
 
 pub record Reads : Type 0 where
-  pub name : String
+  pub command : Command
   pub says : List ℕ → List ℕ
 
-abbrev pub reads : String → (List ℕ → List ℕ) → Reads
-reads name says = record { name = name; says = says }
+abbrev pub reads : Command → (List ℕ → List ℕ) → Reads
+reads command says = record { command = command; says = says }
 
 abbrev pub readers : List Reads
 readers =
-    reads "LinkCheckAns" LinkCheckAns·says ∷
-    reads "LinkADRReq" LinkADRReq·says ∷
-    reads "DutyCycleReq" DutyCycleReq·says ∷
-    reads "RXParamSetupReq" RXParamSetupReq·says ∷
-    reads "NewChannelReq" NewChannelReq·says ∷
-    reads "RXTimingSetupReq" RXTimingSetupReq·says ∷
-    reads "TXParamSetupReq" TXParamSetupReq·says ∷
-    reads "DlChannelReq" DlChannelReq·says ∷
-    reads "DeviceTimeAns" DeviceTimeAns·says ∷ []
+    reads (named "LinkCheckAns") LinkCheckAns·says ∷
+    reads (named "LinkADRReq") LinkADRReq·says ∷
+    reads (named "DutyCycleReq") DutyCycleReq·says ∷
+    reads (named "RXParamSetupReq") RXParamSetupReq·says ∷
+    reads (named "NewChannelReq") NewChannelReq·says ∷
+    reads (named "RXTimingSetupReq") RXTimingSetupReq·says ∷
+    reads (named "TXParamSetupReq") TXParamSetupReq·says ∷
+    reads (named "DlChannelReq") DlChannelReq·says ∷
+    reads (named "DeviceTimeAns") DeviceTimeAns·says ∷ []
 
 abbrev pub saidIn : List Reads → Cmd → List ℕ
 saidIn [] c = []
-saidIn (r ∷ rs) c = cond (eqb (c .cid) (named (r .name) .cid)) (r .says (c .body)) (saidIn rs c)
+saidIn (r ∷ rs) c = cond (eqb (c .cid) (r .command .cid)) (r .says (c .body)) (saidIn rs c)
 
 -- ---- their sum
 

@@ -4,17 +4,17 @@ use mathlib.Core.Path.{_≡_, refl, sym, ap, _∙_}
 use mathlib.Core.List.{List, []}
 use lib.ListN.{length, take}
 use Rattle.table.specs.Answers.{given, refused}
-use Rattle.table.specs.Table.{named, lengthOf}
+use Rattle.table.specs.Table.{lengthOf}
 use Rattle.fields.specs.Lists.{tabulate, exactly}
 use Rattle.fields.proofs.Lists.{exactly-made, exactly-refused}
-use Rattle.payloads.specs.Commands.{withCid, uplinkName, uplinkBytes, downlinkName, downlinkBytes, sentUp, sentDown, commandOf, inFive}
+use Rattle.payloads.specs.Commands.{withCid, uplinkEntry, uplinkBytes, downlinkEntry, downlinkBytes, sentUp, sentDown, commandOf, inFive}
 use Rattle.payloads.specs.declared.uplink.UplinkMacCommand.{UplinkMacCommand}
 use Rattle.payloads.specs.declared.uplink.UplinkMacCommand.the-variants as Uplink
 use Rattle.payloads.specs.declared.downlink.DownlinkMacCommand.{DownlinkMacCommand}
 use Rattle.payloads.specs.declared.downlink.DownlinkMacCommand.the-variants as Downlink
 
 -- a payload is as long as the table says
-pub uplink-size : (c : UplinkMacCommand) → length (uplinkBytes c) ≡ named (uplinkName c) .size
+pub uplink-size : (c : UplinkMacCommand) → length (uplinkBytes c) ≡ uplinkEntry c .size
 uplink-size (Uplink.LinkCheckReq p) = refl
 uplink-size (Uplink.LinkADRAns p) = refl
 uplink-size (Uplink.DutyCycleAns p) = refl
@@ -40,7 +40,7 @@ uplink-room (Uplink.DlChannelAns p) = refl
 uplink-room (Uplink.DeviceTimeReq p) = refl
 
 -- a command is made again from its CID and its bytes
-pub uplink-again : (c : UplinkMacCommand) → commandOf (lengthOf sentUp) (named (uplinkName c) .cid) (uplinkBytes c) ≡ given (named (uplinkName c) .cid, uplinkBytes c)
+pub uplink-again : (c : UplinkMacCommand) → commandOf (lengthOf sentUp) (uplinkEntry c .cid) (uplinkBytes c) ≡ given (uplinkEntry c .cid, uplinkBytes c)
 uplink-again (Uplink.LinkCheckReq p) = refl
 uplink-again (Uplink.LinkADRAns p) = refl
 uplink-again (Uplink.DutyCycleAns p) = refl
@@ -53,7 +53,7 @@ uplink-again (Uplink.DlChannelAns p) = refl
 uplink-again (Uplink.DeviceTimeReq p) = refl
 
 -- a payload is as long as the table says
-pub downlink-size : (c : DownlinkMacCommand) → length (downlinkBytes c) ≡ named (downlinkName c) .size
+pub downlink-size : (c : DownlinkMacCommand) → length (downlinkBytes c) ≡ downlinkEntry c .size
 downlink-size (Downlink.LinkCheckAns p) = refl
 downlink-size (Downlink.LinkADRReq p) = refl
 downlink-size (Downlink.DutyCycleReq p) = refl
@@ -79,7 +79,7 @@ downlink-room (Downlink.DlChannelReq p) = refl
 downlink-room (Downlink.DeviceTimeAns p) = refl
 
 -- a command is made again from its CID and its bytes
-pub downlink-again : (c : DownlinkMacCommand) → commandOf (lengthOf sentDown) (named (downlinkName c) .cid) (downlinkBytes c) ≡ given (named (downlinkName c) .cid, downlinkBytes c)
+pub downlink-again : (c : DownlinkMacCommand) → commandOf (lengthOf sentDown) (downlinkEntry c .cid) (downlinkBytes c) ≡ given (downlinkEntry c .cid, downlinkBytes c)
 downlink-again (Downlink.LinkCheckAns p) = refl
 downlink-again (Downlink.LinkADRReq p) = refl
 downlink-again (Downlink.DutyCycleReq p) = refl

@@ -1,12 +1,11 @@
 -- The commands of each direction: which command of the table a value is, and the bytes of its payload.
 use Prim.Native.Nat.{ℕ}
-use Prim.Native.String.{String}
 use mathlib.Core.List.{List, _++_}
 use mathlib.Core.Option.{Option, none, some}
 use lib.ListN.{length, replicate, take}
 use Rattle.table.specs.Answers.{Answer, given, refused}
 use Rattle.table.specs.Refusals.{numberOf}
-use Rattle.table.specs.Table.{named}
+use Rattle.table.specs.Table.{Command, named}
 use Rattle.table.specs.declared.rules.Direction.the-variants.{Down, Up}
 use Rattle.table.specs.declared.rules.Rules.{Rules}
 use Rattle.fields.specs.Lists.{exactly}
@@ -50,18 +49,18 @@ sentDown = record { direction = Down }
 
 -- ---- Uplink
 
--- the name that the table has it by
-abbrev pub uplinkName : UplinkMacCommand → String
-uplinkName (Uplink.LinkCheckReq p) = "LinkCheckReq"
-uplinkName (Uplink.LinkADRAns p) = "LinkADRAns"
-uplinkName (Uplink.DutyCycleAns p) = "DutyCycleAns"
-uplinkName (Uplink.RXParamSetupAns p) = "RXParamSetupAns"
-uplinkName (Uplink.DevStatusAns p) = "DevStatusAns"
-uplinkName (Uplink.NewChannelAns p) = "NewChannelAns"
-uplinkName (Uplink.RXTimingSetupAns p) = "RXTimingSetupAns"
-uplinkName (Uplink.TXParamSetupAns p) = "TXParamSetupAns"
-uplinkName (Uplink.DlChannelAns p) = "DlChannelAns"
-uplinkName (Uplink.DeviceTimeReq p) = "DeviceTimeReq"
+-- the command that it is in the table
+abbrev pub uplinkEntry : UplinkMacCommand → Command
+uplinkEntry (Uplink.LinkCheckReq p) = named "LinkCheckReq"
+uplinkEntry (Uplink.LinkADRAns p) = named "LinkADRAns"
+uplinkEntry (Uplink.DutyCycleAns p) = named "DutyCycleAns"
+uplinkEntry (Uplink.RXParamSetupAns p) = named "RXParamSetupAns"
+uplinkEntry (Uplink.DevStatusAns p) = named "DevStatusAns"
+uplinkEntry (Uplink.NewChannelAns p) = named "NewChannelAns"
+uplinkEntry (Uplink.RXTimingSetupAns p) = named "RXTimingSetupAns"
+uplinkEntry (Uplink.TXParamSetupAns p) = named "TXParamSetupAns"
+uplinkEntry (Uplink.DlChannelAns p) = named "DlChannelAns"
+uplinkEntry (Uplink.DeviceTimeReq p) = named "DeviceTimeReq"
 
 abbrev pub uplinkBytes : UplinkMacCommand → List ℕ
 uplinkBytes (Uplink.LinkCheckReq p) = LinkCheckReq·bytes p
@@ -77,23 +76,23 @@ uplinkBytes (Uplink.DeviceTimeReq p) = DeviceTimeReq·bytes p
 
 -- its CID and the bytes of its payload
 abbrev pub toldUplink : UplinkMacCommandAnswer → Answer (ℕ × List ℕ)
-toldUplink (UplinkAnswer.Read c) = given (named (uplinkName c) .cid, uplinkBytes c)
+toldUplink (UplinkAnswer.Read c) = given (uplinkEntry c .cid, uplinkBytes c)
 toldUplink (UplinkAnswer.Refused n) = refused (numberOf n)
 
 -- ---- Downlink
 
--- the name that the table has it by
-abbrev pub downlinkName : DownlinkMacCommand → String
-downlinkName (Downlink.LinkCheckAns p) = "LinkCheckAns"
-downlinkName (Downlink.LinkADRReq p) = "LinkADRReq"
-downlinkName (Downlink.DutyCycleReq p) = "DutyCycleReq"
-downlinkName (Downlink.RXParamSetupReq p) = "RXParamSetupReq"
-downlinkName (Downlink.DevStatusReq p) = "DevStatusReq"
-downlinkName (Downlink.NewChannelReq p) = "NewChannelReq"
-downlinkName (Downlink.RXTimingSetupReq p) = "RXTimingSetupReq"
-downlinkName (Downlink.TXParamSetupReq p) = "TXParamSetupReq"
-downlinkName (Downlink.DlChannelReq p) = "DlChannelReq"
-downlinkName (Downlink.DeviceTimeAns p) = "DeviceTimeAns"
+-- the command that it is in the table
+abbrev pub downlinkEntry : DownlinkMacCommand → Command
+downlinkEntry (Downlink.LinkCheckAns p) = named "LinkCheckAns"
+downlinkEntry (Downlink.LinkADRReq p) = named "LinkADRReq"
+downlinkEntry (Downlink.DutyCycleReq p) = named "DutyCycleReq"
+downlinkEntry (Downlink.RXParamSetupReq p) = named "RXParamSetupReq"
+downlinkEntry (Downlink.DevStatusReq p) = named "DevStatusReq"
+downlinkEntry (Downlink.NewChannelReq p) = named "NewChannelReq"
+downlinkEntry (Downlink.RXTimingSetupReq p) = named "RXTimingSetupReq"
+downlinkEntry (Downlink.TXParamSetupReq p) = named "TXParamSetupReq"
+downlinkEntry (Downlink.DlChannelReq p) = named "DlChannelReq"
+downlinkEntry (Downlink.DeviceTimeAns p) = named "DeviceTimeAns"
 
 abbrev pub downlinkBytes : DownlinkMacCommand → List ℕ
 downlinkBytes (Downlink.LinkCheckAns p) = LinkCheckAns·bytes p
@@ -109,7 +108,7 @@ downlinkBytes (Downlink.DeviceTimeAns p) = DeviceTimeAns·bytes p
 
 -- its CID and the bytes of its payload
 abbrev pub toldDownlink : DownlinkMacCommandAnswer → Answer (ℕ × List ℕ)
-toldDownlink (DownlinkAnswer.Read c) = given (named (downlinkName c) .cid, downlinkBytes c)
+toldDownlink (DownlinkAnswer.Read c) = given (downlinkEntry c .cid, downlinkBytes c)
 toldDownlink (DownlinkAnswer.Refused n) = refused (numberOf n)
 
 -- ---- Made from bytes
@@ -118,9 +117,9 @@ abbrev pub withCid : ℕ → Answer (List ℕ) → Answer (ℕ × List ℕ)
 withCid cid (given s) = given (cid, s)
 withCid cid (refused n) = refused n
 
--- the command of that name, from the bytes of its payload
-abbrev pub commandNamed : String → List ℕ → Answer (ℕ × List ℕ)
-commandNamed name s = withCid (named name .cid) (exactly (named name .size) s)
+-- a command of the table, from the bytes of its payload
+abbrev pub commandFrom : Command → List ℕ → Answer (ℕ × List ℕ)
+commandFrom c s = withCid (c .cid) (exactly (c .size) s)
 
 abbrev pub sized : Option ℕ → ℕ → List ℕ → Answer (ℕ × List ℕ)
 sized none cid s = refused 1

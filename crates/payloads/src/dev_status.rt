@@ -26,7 +26,7 @@ impl DevStatusReqPayload {
     }
 
     pub fn uplink() -> bool
-        ensures { λ r. ⌜ r ≡ flagOf "DevStatusReq" ⌝ }
+        ensures { λ r. ⌜ r ≡ flagOf (named "DevStatusReq") ⌝ }
     {
         false
     }
@@ -71,7 +71,7 @@ impl DevStatusAnsPayload {
 
     // Not uplink, as the Rust says, though a device sends it.
     pub fn uplink() -> bool
-        ensures { λ r. ⌜ r ≡ flagOf "DevStatusAns" ⌝ }
+        ensures { λ r. ⌜ r ≡ flagOf (named "DevStatusAns") ⌝ }
     {
         false
     }

@@ -25,7 +25,7 @@ impl DeviceTimeReqPayload {
     }
 
     pub fn uplink() -> bool
-        ensures { λ r. ⌜ r ≡ flagOf "DeviceTimeReq" ⌝ }
+        ensures { λ r. ⌜ r ≡ flagOf (named "DeviceTimeReq") ⌝ }
     {
         true
     }
@@ -75,7 +75,7 @@ impl DeviceTimeAnsPayload {
     }
 
     pub fn uplink() -> bool
-        ensures { λ r. ⌜ r ≡ flagOf "DeviceTimeAns" ⌝ }
+        ensures { λ r. ⌜ r ≡ flagOf (named "DeviceTimeAns") ⌝ }
     {
         false
     }

@@ -35,7 +35,7 @@ impl DlChannelReqPayload {
     }
 
     pub fn uplink() -> bool
-        ensures { λ r. ⌜ r ≡ flagOf "DlChannelReq" ⌝ }
+        ensures { λ r. ⌜ r ≡ flagOf (named "DlChannelReq") ⌝ }
     {
         false
     }
@@ -93,7 +93,7 @@ impl DlChannelAnsPayload {
     }
 
     pub fn uplink() -> bool
-        ensures { λ r. ⌜ r ≡ flagOf "DlChannelAns" ⌝ }
+        ensures { λ r. ⌜ r ≡ flagOf (named "DlChannelAns") ⌝ }
     {
         true
     }

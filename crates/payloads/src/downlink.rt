@@ -22,7 +22,7 @@ use table::Refusal;
 ghost use mathlib.Core.Path.{_≡_};
 ghost use mathlib.Core.List.{[]};
 ghost use Rattle.table.specs.Table.{named, flagOf, lengthOf};
-ghost use Rattle.payloads.specs.Commands.{downlinkName, downlinkBytes, toldDownlink, sentDown, commandOf, commandNamed, inFive};
+ghost use Rattle.payloads.specs.Commands.{downlinkEntry, downlinkBytes, toldDownlink, sentDown, commandOf, commandFrom, inFive};
 
 // A command that the network sends.
 pub enum DownlinkMacCommand {
@@ -46,7 +46,7 @@ pub enum DownlinkMacCommandAnswer {
 // A command without payload, if there are no bytes.
 fn empty(command: DownlinkMacCommand, payload: &[u8]) -> DownlinkMacCommandAnswer
     requires { ⌜ downlinkBytes command ≡ [] ⌝ }
-    ensures { λ r. ⌜ toldDownlink r ≡ commandNamed (downlinkName command) (now (payload .entry)) ⌝ }
+    ensures { λ r. ⌜ toldDownlink r ≡ commandFrom (downlinkEntry command) (now (payload .entry)) ⌝ }
 {
     if payload.len() == 0 {
         DownlinkMacCommandAnswer::Read(command)
@@ -56,7 +56,7 @@ fn empty(command: DownlinkMacCommand, payload: &[u8]) -> DownlinkMacCommandAnswe
 }
 
 fn link_check_ans(payload: &[u8]) -> DownlinkMacCommandAnswer
-    ensures { λ r. ⌜ toldDownlink r ≡ commandNamed "LinkCheckAns" (now (payload .entry)) ⌝ }
+    ensures { λ r. ⌜ toldDownlink r ≡ commandFrom (named "LinkCheckAns") (now (payload .entry)) ⌝ }
 {
     match LinkCheckAnsPayload::new(payload) {
         LinkCheckAnsAnswer::Read(p) =>
@@ -66,7 +66,7 @@ fn link_check_ans(payload: &[u8]) -> DownlinkMacCommandAnswer
 }
 
 fn link_adr_req(payload: &[u8]) -> DownlinkMacCommandAnswer
-    ensures { λ r. ⌜ toldDownlink r ≡ commandNamed "LinkADRReq" (now (payload .entry)) ⌝ }
+    ensures { λ r. ⌜ toldDownlink r ≡ commandFrom (named "LinkADRReq") (now (payload .entry)) ⌝ }
 {
     match LinkADRReqPayload::new(payload) {
         LinkADRReqAnswer::Read(p) => DownlinkMacCommandAnswer::Read(DownlinkMacCommand::LinkADRReq(
@@ -77,7 +77,7 @@ fn link_adr_req(payload: &[u8]) -> DownlinkMacCommandAnswer
 }
 
 fn duty_cycle_req(payload: &[u8]) -> DownlinkMacCommandAnswer
-    ensures { λ r. ⌜ toldDownlink r ≡ commandNamed "DutyCycleReq" (now (payload .entry)) ⌝ }
+    ensures { λ r. ⌜ toldDownlink r ≡ commandFrom (named "DutyCycleReq") (now (payload .entry)) ⌝ }
 {
     match DutyCycleReqPayload::new(payload) {
         DutyCycleReqAnswer::Read(p) =>
@@ -87,7 +87,7 @@ fn duty_cycle_req(payload: &[u8]) -> DownlinkMacCommandAnswer
 }
 
 fn rx_param_setup_req(payload: &[u8]) -> DownlinkMacCommandAnswer
-    ensures { λ r. ⌜ toldDownlink r ≡ commandNamed "RXParamSetupReq" (now (payload .entry)) ⌝ }
+    ensures { λ r. ⌜ toldDownlink r ≡ commandFrom (named "RXParamSetupReq") (now (payload .entry)) ⌝ }
 {
     match RXParamSetupReqPayload::new(payload) {
         RXParamSetupReqAnswer::Read(p) =>
@@ -97,7 +97,7 @@ fn rx_param_setup_req(payload: &[u8]) -> DownlinkMacCommandAnswer
 }
 
 fn new_channel_req(payload: &[u8]) -> DownlinkMacCommandAnswer
-    ensures { λ r. ⌜ toldDownlink r ≡ commandNamed "NewChannelReq" (now (payload .entry)) ⌝ }
+    ensures { λ r. ⌜ toldDownlink r ≡ commandFrom (named "NewChannelReq") (now (payload .entry)) ⌝ }
 {
     match NewChannelReqPayload::new(payload) {
         NewChannelReqAnswer::Read(p) =>
@@ -107,7 +107,7 @@ fn new_channel_req(payload: &[u8]) -> DownlinkMacCommandAnswer
 }
 
 fn rx_timing_setup_req(payload: &[u8]) -> DownlinkMacCommandAnswer
-    ensures { λ r. ⌜ toldDownlink r ≡ commandNamed "RXTimingSetupReq" (now (payload .entry)) ⌝ }
+    ensures { λ r. ⌜ toldDownlink r ≡ commandFrom (named "RXTimingSetupReq") (now (payload .entry)) ⌝ }
 {
     match RXTimingSetupReqPayload::new(payload) {
         RXTimingSetupReqAnswer::Read(p) =>
@@ -117,7 +117,7 @@ fn rx_timing_setup_req(payload: &[u8]) -> DownlinkMacCommandAnswer
 }
 
 fn tx_param_setup_req(payload: &[u8]) -> DownlinkMacCommandAnswer
-    ensures { λ r. ⌜ toldDownlink r ≡ commandNamed "TXParamSetupReq" (now (payload .entry)) ⌝ }
+    ensures { λ r. ⌜ toldDownlink r ≡ commandFrom (named "TXParamSetupReq") (now (payload .entry)) ⌝ }
 {
     match TXParamSetupReqPayload::new(payload) {
         TXParamSetupReqAnswer::Read(p) =>
@@ -127,7 +127,7 @@ fn tx_param_setup_req(payload: &[u8]) -> DownlinkMacCommandAnswer
 }
 
 fn dl_channel_req(payload: &[u8]) -> DownlinkMacCommandAnswer
-    ensures { λ r. ⌜ toldDownlink r ≡ commandNamed "DlChannelReq" (now (payload .entry)) ⌝ }
+    ensures { λ r. ⌜ toldDownlink r ≡ commandFrom (named "DlChannelReq") (now (payload .entry)) ⌝ }
 {
     match DlChannelReqPayload::new(payload) {
         DlChannelReqAnswer::Read(p) =>
@@ -137,7 +137,7 @@ fn dl_channel_req(payload: &[u8]) -> DownlinkMacCommandAnswer
 }
 
 fn device_time_ans(payload: &[u8]) -> DownlinkMacCommandAnswer
-    ensures { λ r. ⌜ toldDownlink r ≡ commandNamed "DeviceTimeAns" (now (payload .entry)) ⌝ }
+    ensures { λ r. ⌜ toldDownlink r ≡ commandFrom (named "DeviceTimeAns") (now (payload .entry)) ⌝ }
 {
     match DeviceTimeAnsPayload::new(payload) {
         DeviceTimeAnsAnswer::Read(p) =>
@@ -170,7 +170,7 @@ impl DownlinkMacCommand {
     }
 
     pub fn len(self) -> usize
-        ensures { λ r. ⌜ r ≡ named (downlinkName self) .size ⌝ }
+        ensures { λ r. ⌜ r ≡ downlinkEntry self .size ⌝ }
     {
         match self {
             DownlinkMacCommand::LinkCheckAns(_) => LinkCheckAnsPayload::len(),
@@ -187,7 +187,7 @@ impl DownlinkMacCommand {
     }
 
     pub fn uplink(self) -> bool
-        ensures { λ r. ⌜ r ≡ flagOf (downlinkName self) ⌝ }
+        ensures { λ r. ⌜ r ≡ flagOf (downlinkEntry self) ⌝ }
     {
         match self {
             DownlinkMacCommand::LinkCheckAns(_) => LinkCheckAnsPayload::uplink(),
@@ -204,7 +204,7 @@ impl DownlinkMacCommand {
     }
 
     pub fn cid(self) -> u8
-        ensures { λ r. ⌜ r ≡ named (downlinkName self) .cid ⌝ }
+        ensures { λ r. ⌜ r ≡ downlinkEntry self .cid ⌝ }
     {
         match self {
             DownlinkMacCommand::LinkCheckAns(_) => LinkCheckAnsPayload::cid(),

@@ -34,7 +34,7 @@ impl DutyCycleReqPayload {
     }
 
     pub fn uplink() -> bool
-        ensures { λ r. ⌜ r ≡ flagOf "DutyCycleReq" ⌝ }
+        ensures { λ r. ⌜ r ≡ flagOf (named "DutyCycleReq") ⌝ }
     {
         false
     }
@@ -85,7 +85,7 @@ impl DutyCycleAnsPayload {
     }
 
     pub fn uplink() -> bool
-        ensures { λ r. ⌜ r ≡ flagOf "DutyCycleAns" ⌝ }
+        ensures { λ r. ⌜ r ≡ flagOf (named "DutyCycleAns") ⌝ }
     {
         true
     }

@@ -41,7 +41,7 @@ impl LinkADRReqPayload {
     }
 
     pub fn uplink() -> bool
-        ensures { λ r. ⌜ r ≡ flagOf "LinkADRReq" ⌝ }
+        ensures { λ r. ⌜ r ≡ flagOf (named "LinkADRReq") ⌝ }
     {
         false
     }
@@ -113,7 +113,7 @@ impl LinkADRAnsPayload {
     }
 
     pub fn uplink() -> bool
-        ensures { λ r. ⌜ r ≡ flagOf "LinkADRAns" ⌝ }
+        ensures { λ r. ⌜ r ≡ flagOf (named "LinkADRAns") ⌝ }
     {
         true
     }

@@ -25,7 +25,7 @@ impl LinkCheckReqPayload {
     }
 
     pub fn uplink() -> bool
-        ensures { λ r. ⌜ r ≡ flagOf "LinkCheckReq" ⌝ }
+        ensures { λ r. ⌜ r ≡ flagOf (named "LinkCheckReq") ⌝ }
     {
         true
     }
@@ -75,7 +75,7 @@ impl LinkCheckAnsPayload {
     }
 
     pub fn uplink() -> bool
-        ensures { λ r. ⌜ r ≡ flagOf "LinkCheckAns" ⌝ }
+        ensures { λ r. ⌜ r ≡ flagOf (named "LinkCheckAns") ⌝ }
     {
         false
     }

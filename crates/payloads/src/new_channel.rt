@@ -42,7 +42,7 @@ impl NewChannelReqPayload {
     }
 
     pub fn uplink() -> bool
-        ensures { λ r. ⌜ r ≡ flagOf "NewChannelReq" ⌝ }
+        ensures { λ r. ⌜ r ≡ flagOf (named "NewChannelReq") ⌝ }
     {
         false
     }
@@ -107,7 +107,7 @@ impl NewChannelAnsPayload {
     }
 
     pub fn uplink() -> bool
-        ensures { λ r. ⌜ r ≡ flagOf "NewChannelAns" ⌝ }
+        ensures { λ r. ⌜ r ≡ flagOf (named "NewChannelAns") ⌝ }
     {
         true
     }

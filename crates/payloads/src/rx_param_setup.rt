@@ -36,7 +36,7 @@ impl RXParamSetupReqPayload {
     }
 
     pub fn uplink() -> bool
-        ensures { λ r. ⌜ r ≡ flagOf "RXParamSetupReq" ⌝ }
+        ensures { λ r. ⌜ r ≡ flagOf (named "RXParamSetupReq") ⌝ }
     {
         false
     }
@@ -94,7 +94,7 @@ impl RXParamSetupAnsPayload {
     }
 
     pub fn uplink() -> bool
-        ensures { λ r. ⌜ r ≡ flagOf "RXParamSetupAns" ⌝ }
+        ensures { λ r. ⌜ r ≡ flagOf (named "RXParamSetupAns") ⌝ }
     {
         true
     }

@@ -33,7 +33,7 @@ impl RXTimingSetupReqPayload {
     }
 
     pub fn uplink() -> bool
-        ensures { λ r. ⌜ r ≡ flagOf "RXTimingSetupReq" ⌝ }
+        ensures { λ r. ⌜ r ≡ flagOf (named "RXTimingSetupReq") ⌝ }
     {
         false
     }
@@ -76,7 +76,7 @@ impl RXTimingSetupAnsPayload {
     }
 
     pub fn uplink() -> bool
-        ensures { λ r. ⌜ r ≡ flagOf "RXTimingSetupAns" ⌝ }
+        ensures { λ r. ⌜ r ≡ flagOf (named "RXTimingSetupAns") ⌝ }
     {
         true
     }

@@ -34,7 +34,7 @@ impl TXParamSetupReqPayload {
     }
 
     pub fn uplink() -> bool
-        ensures { λ r. ⌜ r ≡ flagOf "TXParamSetupReq" ⌝ }
+        ensures { λ r. ⌜ r ≡ flagOf (named "TXParamSetupReq") ⌝ }
     {
         false
     }
@@ -108,7 +108,7 @@ impl TXParamSetupAnsPayload {
     }
 
     pub fn uplink() -> bool
-        ensures { λ r. ⌜ r ≡ flagOf "TXParamSetupAns" ⌝ }
+        ensures { λ r. ⌜ r ≡ flagOf (named "TXParamSetupAns") ⌝ }
     {
         true
     }

@@ -18,7 +18,7 @@ use table::Refusal;
 ghost use mathlib.Core.Path.{_≡_};
 ghost use mathlib.Core.List.{[]};
 ghost use Rattle.table.specs.Table.{named, flagOf, lengthOf};
-ghost use Rattle.payloads.specs.Commands.{uplinkName, uplinkBytes, toldUplink, sentUp, commandOf, commandNamed, inFive};
+ghost use Rattle.payloads.specs.Commands.{uplinkEntry, uplinkBytes, toldUplink, sentUp, commandOf, commandFrom, inFive};
 
 // A command that a device sends.
 pub enum UplinkMacCommand {
@@ -42,7 +42,7 @@ pub enum UplinkMacCommandAnswer {
 // A command without payload, if there are no bytes.
 fn empty(command: UplinkMacCommand, payload: &[u8]) -> UplinkMacCommandAnswer
     requires { ⌜ uplinkBytes command ≡ [] ⌝ }
-    ensures { λ r. ⌜ toldUplink r ≡ commandNamed (uplinkName command) (now (payload .entry)) ⌝ }
+    ensures { λ r. ⌜ toldUplink r ≡ commandFrom (uplinkEntry command) (now (payload .entry)) ⌝ }
 {
     if payload.len() == 0 {
         UplinkMacCommandAnswer::Read(command)
@@ -52,7 +52,7 @@ fn empty(command: UplinkMacCommand, payload: &[u8]) -> UplinkMacCommandAnswer
 }
 
 fn link_adr_ans(payload: &[u8]) -> UplinkMacCommandAnswer
-    ensures { λ r. ⌜ toldUplink r ≡ commandNamed "LinkADRAns" (now (payload .entry)) ⌝ }
+    ensures { λ r. ⌜ toldUplink r ≡ commandFrom (named "LinkADRAns") (now (payload .entry)) ⌝ }
 {
     match LinkADRAnsPayload::new(payload) {
         LinkADRAnsAnswer::Read(p) => UplinkMacCommandAnswer::Read(UplinkMacCommand::LinkADRAns(p)),
@@ -61,7 +61,7 @@ fn link_adr_ans(payload: &[u8]) -> UplinkMacCommandAnswer
 }
 
 fn rx_param_setup_ans(payload: &[u8]) -> UplinkMacCommandAnswer
-    ensures { λ r. ⌜ toldUplink r ≡ commandNamed "RXParamSetupAns" (now (payload .entry)) ⌝ }
+    ensures { λ r. ⌜ toldUplink r ≡ commandFrom (named "RXParamSetupAns") (now (payload .entry)) ⌝ }
 {
     match RXParamSetupAnsPayload::new(payload) {
         RXParamSetupAnsAnswer::Read(p) =>
@@ -71,7 +71,7 @@ fn rx_param_setup_ans(payload: &[u8]) -> UplinkMacCommandAnswer
 }
 
 fn dev_status_ans(payload: &[u8]) -> UplinkMacCommandAnswer
-    ensures { λ r. ⌜ toldUplink r ≡ commandNamed "DevStatusAns" (now (payload .entry)) ⌝ }
+    ensures { λ r. ⌜ toldUplink r ≡ commandFrom (named "DevStatusAns") (now (payload .entry)) ⌝ }
 {
     match DevStatusAnsPayload::new(payload) {
         DevStatusAnsAnswer::Read(p) => UplinkMacCommandAnswer::Read(UplinkMacCommand::DevStatusAns(
@@ -82,7 +82,7 @@ fn dev_status_ans(payload: &[u8]) -> UplinkMacCommandAnswer
 }
 
 fn new_channel_ans(payload: &[u8]) -> UplinkMacCommandAnswer
-    ensures { λ r. ⌜ toldUplink r ≡ commandNamed "NewChannelAns" (now (payload .entry)) ⌝ }
+    ensures { λ r. ⌜ toldUplink r ≡ commandFrom (named "NewChannelAns") (now (payload .entry)) ⌝ }
 {
     match NewChannelAnsPayload::new(payload) {
         NewChannelAnsAnswer::Read(p) =>
@@ -92,7 +92,7 @@ fn new_channel_ans(payload: &[u8]) -> UplinkMacCommandAnswer
 }
 
 fn dl_channel_ans(payload: &[u8]) -> UplinkMacCommandAnswer
-    ensures { λ r. ⌜ toldUplink r ≡ commandNamed "DlChannelAns" (now (payload .entry)) ⌝ }
+    ensures { λ r. ⌜ toldUplink r ≡ commandFrom (named "DlChannelAns") (now (payload .entry)) ⌝ }
 {
     match DlChannelAnsPayload::new(payload) {
         DlChannelAnsAnswer::Read(p) => UplinkMacCommandAnswer::Read(UplinkMacCommand::DlChannelAns(
@@ -138,7 +138,7 @@ impl UplinkMacCommand {
     }
 
     pub fn len(self) -> usize
-        ensures { λ r. ⌜ r ≡ named (uplinkName self) .size ⌝ }
+        ensures { λ r. ⌜ r ≡ uplinkEntry self .size ⌝ }
     {
         match self {
             UplinkMacCommand::LinkCheckReq(_) => LinkCheckReqPayload::len(),
@@ -155,7 +155,7 @@ impl UplinkMacCommand {
     }
 
     pub fn uplink(self) -> bool
-        ensures { λ r. ⌜ r ≡ flagOf (uplinkName self) ⌝ }
+        ensures { λ r. ⌜ r ≡ flagOf (uplinkEntry self) ⌝ }
     {
         match self {
             UplinkMacCommand::LinkCheckReq(_) => LinkCheckReqPayload::uplink(),
@@ -172,7 +172,7 @@ impl UplinkMacCommand {
     }
 
     pub fn cid(self) -> u8
-        ensures { λ r. ⌜ r ≡ named (uplinkName self) .cid ⌝ }
+        ensures { λ r. ⌜ r ≡ uplinkEntry self .cid ⌝ }
     {
         match self {
             UplinkMacCommand::LinkCheckReq(_) => LinkCheckReqPayload::cid(),

@@ -52,25 +52,31 @@ lengthOf rules c = lengthIn rows (rules .direction) c
 -- ---- by name
 
 pub record Command : Type 0 where
+  pub name : String
   pub cid : ℕ
   pub up : Bool
   pub size : ℕ
 
--- a name that the table has not; no command has CID 0
-abbrev pub absent : Command
-absent = record { cid = 0; up = false; size = 0 }
-
-abbrev pub namedIn : List Row → String → Command
-namedIn [] n = absent
+abbrev pub namedIn : List Row → String → Option Command
+namedIn [] n = none
 namedIn (r ∷ rs) n =
-    cond (eqt (r .down) n) (record { cid = r .cid; up = false; size = r .bytesDown })
-    (cond (eqt (r .up) n) (record { cid = r .cid; up = true; size = r .bytesUp })
+    cond (eqt (r .down) n) (some (record { name = r .down; cid = r .cid; up = false; size = r .bytesDown }))
+    (cond (eqt (r .up) n) (some (record { name = r .up; cid = r .cid; up = true; size = r .bytesUp }))
     (namedIn rs n))
 
--- the command of that name
-abbrev pub named : String → Command
-named n = namedIn rows n
+-- what a name may be cited for: a command, where a row has the name, and nothing where none has
+abbrev pub Cited : Option Command → Type 0
+Cited (some c) = Command
+Cited none = Unit
+
+abbrev pub cited : (found : Option Command) → Cited found
+cited (some c) = c
+cited none = tt
+
+-- the command of that name. A name that no row has is no command, so a contract or a definition with such a name has no type and is refused
+abbrev pub named : (n : String) → Cited (namedIn rows n)
+named n = cited (namedIn rows n)
 
 -- the flag by which a command type says that it is sent up. That of DevStatusAns says "not uplink" in the Rust (document 01, "Command table")
-abbrev pub flagOf : String → Bool
-flagOf n = cond (eqt n "DevStatusAns") false (named n .up)
+abbrev pub flagOf : Command → Bool
+flagOf c = cond (eqt (c .name) (named "DevStatusAns" .name)) false (c .up)

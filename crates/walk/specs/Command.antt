@@ -6,19 +6,18 @@ use mathlib.Core.Option.{Option, none, some}
 use mathlib.Core.Path.{_≡_}
 use lib.Dec.{ltb}
 use Rattle.table.specs.Answers.{Consent, given, refused, accepted}
-use Rattle.table.specs.Table.{named}
 use Rattle.payloads.specs.declared.uplink.UplinkMacCommand.{UplinkMacCommand}
 use Rattle.payloads.specs.declared.downlink.DownlinkMacCommand.{DownlinkMacCommand}
-use Rattle.payloads.specs.Commands.{uplinkName, uplinkBytes, downlinkName, downlinkBytes}
+use Rattle.payloads.specs.Commands.{uplinkEntry, uplinkBytes, downlinkEntry, downlinkBytes}
 use Rattle.walk.specs.Step.{command, heading, stepAt}
 use Rattle.walk.specs.Walk.{Rule, Cmd}
 
--- its CID, by its name in the table, and the bytes of its payload
+-- its CID, by the table, and the bytes of its payload
 abbrev pub uplinkCmd : UplinkMacCommand → Cmd
-uplinkCmd c = record { cid = named (uplinkName c) .cid; body = uplinkBytes c }
+uplinkCmd c = record { cid = uplinkEntry c .cid; body = uplinkBytes c }
 
 abbrev pub downlinkCmd : DownlinkMacCommand → Cmd
-downlinkCmd c = record { cid = named (downlinkName c) .cid; body = downlinkBytes c }
+downlinkCmd c = record { cid = downlinkEntry c .cid; body = downlinkBytes c }
 
 -- a step at the offset gives a command with this CID
 pub record StandsAt (L : Rule) (s : List ℕ) (at cid : ℕ) : Type 0 where
