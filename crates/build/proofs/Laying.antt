@@ -8,7 +8,8 @@ use native.Mathlib.Omega.{arith}
 use lib.ListN.{length, getD, take, drop, length-append, length-drop, take-append-drop}
 use lib.Seq.{take-suc, take-length, take-append-seam, length-take-le, drop-append-add, drop-drop}
 use Rattle.walk.specs.Walk.{Cmd, encode}
-use Rattle.build.specs.Records.{Rec, cmdOf, bytesOf, over, writtenAt, LaidAt}
+use Rattle.build.specs.Records.{Rec, cmdOf, bytesOf, over, writtenAt}
+use Rattle.build.specs.Laying.{LaidAt}
 use Rattle.build.proofs.Writes.{exactly-laid}
 
 -- the bytes of the first i records

@@ -127,7 +127,7 @@ module _ (L : Rule) (xs : List Item) where
         size = ap (λ x. x .0) (built out h c k);
         walk = ap (walkOf L)
             (ap (take (length (encode (cmdsOf xs)))) memory ∙ take-append-seam (encode (cmdsOf xs)) (drop (length (encode (cmdsOf xs))) out))
-            ∙ Ownership.walks-back L (cmdsOf xs) (well-formed L xs c);
+            ∙ Ownership.encoded-walks-back L (cmdsOf xs) (well-formed L xs c);
         later = ap (drop (length (encode (cmdsOf xs)))) memory
             ∙ drop-append-seam (encode (cmdsOf xs)) (drop (length (encode (cmdsOf xs))) out);
       }
@@ -145,4 +145,4 @@ module _ (L : Rule) (xs : List Item) where
 
 pub equal-bytes-equal-lists : (L : Rule) → EqualBytesEqualLists L
 equal-bytes-equal-lists L xs ys c d e =
-    Ownership.equal-bytes-equal-lists L (cmdsOf xs) (cmdsOf ys) (well-formed L xs c) (well-formed L ys d) e
+    Ownership.same-bytes-same-commands L (cmdsOf xs) (cmdsOf ys) (well-formed L xs c) (well-formed L ys d) e

@@ -7,7 +7,8 @@ use native.Mathlib.Omega.{arith}
 use lib.ListN.{length, take, drop, set, take-append-drop, length-append}
 use lib.Seq.{take-suc-set, drop-set-lt, take-append-seam, length-take-le, take-length, paste}
 use borrow.Author.Tests.{lt-ltb, le-ltb, le-leb, lt-leb}
-use Rattle.build.specs.Records.{Rec, bytesOf, over, writtenAt, LaidAt, lenByte, packedAt}
+use Rattle.build.specs.Records.{Rec, bytesOf, over, writtenAt, lenByte, packedAt}
+use Rattle.build.specs.Laying.{LaidAt}
 
 -- as many of a list's elements as are in its front, are its front
 pub take-counted : (k : ℕ) (p : List ℕ) → take (length (take k p)) p ≡ take k p

@@ -1,5 +1,6 @@
 pub mod Build
 pub mod Cases
+pub mod Laying
 pub mod Records
 pub mod ThereAndBack
 pub mod Told

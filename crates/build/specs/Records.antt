@@ -1,14 +1,13 @@
 -- Commands as records (document 01, "Build"): each a CID, a length and payload bytes, of which those past the length don't count.
-use Prim.Native.Nat.{ℕ, _+_, _-_, _*_, _/_, _%_, _≤_}
+use Prim.Native.Nat.{ℕ, _+_, _-_, _*_, _/_, _%_}
 use mathlib.Core.Bool.{cond}
 use mathlib.Core.List.{List, [], _∷_, _++_, map}
 use mathlib.Core.Option.{Option, none, some}
-use mathlib.Core.Path.{_≡_}
 use lib.Dec.{eqb, leb, ltb}
-use lib.ListN.{length, getD, set, take, drop, replicate}
+use lib.ListN.{length, getD, take, drop, replicate}
 use Rattle.table.specs.Answers.{Answer, given, refused}
 use Rattle.fields.specs.Lists.{tabulate}
-use Rattle.walk.specs.Walk.{Rule, Cmd, size}
+use Rattle.walk.specs.Walk.{Rule, Cmd}
 use Rattle.build.specs.declared.record.Record.{Record}
 
 pub record Rec : Type 0 where
@@ -107,10 +106,3 @@ writtenAt out at r =
     cond (leb (at + length (bytesOf r)) (length out))
     (at + length (bytesOf r), over out at (bytesOf r))
     (at, out)
-
--- a record among others that are written up to an offset `end`: the next goes behind it, so up to `end` there may be a surplus
-pub record LaidAt (out : List ℕ) (at end : ℕ) (r : Rec) (next : ℕ) (o : List ℕ) : Type 0 where
-  pub surplus : List ℕ
-  pub behind : next ≡ at + length (bytesOf r)
-  pub memory : o ≡ over out at (bytesOf r ++ surplus)
-  pub within : at + length (bytesOf r ++ surplus) ≤ end

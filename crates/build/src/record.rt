@@ -6,7 +6,8 @@ ghost use Prim.Native.Nat.{_+_, _≤_};
 ghost use lib.ListN.{length, take};
 ghost use lib.Seq.{paste};
 ghost use Rattle.table.specs.Table.{lengthOf};
-ghost use Rattle.build.specs.Records.{judged, heldBy, bytesOf, writtenAt, LaidAt, packedAt, lenByte, noRecord};
+ghost use Rattle.build.specs.Records.{judged, heldBy, bytesOf, writtenAt, packedAt, lenByte, noRecord};
+ghost use Rattle.build.specs.Laying.{LaidAt};
 ghost use Rattle.build.specs.Told.{toldJudged};
 
 // A command to be written: its CID, the length of its payload, and up to five payload bytes. Bytes past the length don't count.

@@ -21,8 +21,8 @@ allOn width = replicate width 255
 abbrev pub firstOf : List ℕ → List ℕ → Consent × List ℕ
 firstOf m s = cond (ltb (length s) (length m)) (refused 4, m) (accepted, take (length m) s)
 
-abbrev pub newOf : ℕ → List ℕ → Consent × List ℕ
-newOf width s = firstOf (replicate width 0) s
+abbrev pub maskOf : ℕ → List ℕ → Consent × List ℕ
+maskOf width s = firstOf (replicate width 0) s
 
 -- the bytes, called banks. Refusal 5, InvalidIndex, at or past the width
 abbrev pub bankOf : List ℕ → ℕ → Answer ℕ

@@ -7,7 +7,7 @@ ghost use Rattle.fields.specs.Mask.{
   channelOn,
   allOn,
   firstOf,
-  newOf,
+  maskOf,
   bankOf,
   setBank,
   enabledOf,
@@ -128,7 +128,7 @@ impl ChannelMask2 {
     }
 
     pub fn new(data: &[u8]) -> ChannelMask2Answer
-        ensures { λ r. ⌜ (toldVerdict (r .verdict), r .mask .0) ≡ newOf 2 (now («data» .entry)) ⌝ }
+        ensures { λ r. ⌜ (toldVerdict (r .verdict), r .mask .0) ≡ maskOf 2 (now («data» .entry)) ⌝ }
     {
         let mut m = [0u8; 2];
         let verdict = new_in(data, &mut m);
@@ -217,7 +217,7 @@ impl ChannelMask9 {
     }
 
     pub fn new(data: &[u8]) -> ChannelMask9Answer
-        ensures { λ r. ⌜ (toldVerdict (r .verdict), r .mask .0) ≡ newOf 9 (now («data» .entry)) ⌝ }
+        ensures { λ r. ⌜ (toldVerdict (r .verdict), r .mask .0) ≡ maskOf 9 (now («data» .entry)) ⌝ }
     {
         let mut m = [0u8; 9];
         let verdict = new_in(data, &mut m);

@@ -18,7 +18,8 @@ use Rattle.build.specs.declared.record.Record.{Record}
 use Rattle.build.proofs.Judging.{at-most-six}
 use Rattle.build.proofs.Slots.{record-at}
 use Rattle.build.proofs.Sums.{sum-more, sum-refused, sum-end, too-many, not-too-many}
-use Rattle.lent.specs.Records.{recsOf, itemsOf, Count, begun, tallied, inRoom}
+use Rattle.lent.specs.Records.{recsOf, itemsOf}
+use Rattle.lent.specs.Tallying.{Count, begun, tallied, inRoom}
 
 -- ---- room for the total
 

@@ -16,7 +16,8 @@ use Rattle.build.proofs.Judging.{judged-given}
 use Rattle.build.proofs.Slots.{cmds-of-whole}
 use Rattle.build.proofs.Sums.{too-many, not-too-many}
 use Rattle.build.proofs.ThereAndBack.{filled, not-filled}
-use Rattle.lent.specs.Records.{recsOf, itemsOf, inRoom, accepted}
+use Rattle.lent.specs.Records.{recsOf, itemsOf}
+use Rattle.lent.specs.Tallying.{inRoom, isTotal}
 use Rattle.lent.proofs.Counting.{enough, too-short}
 
 take-at-most : (k : ℕ) (l : List ℕ) → length (take k l) ≤ k
@@ -25,13 +26,13 @@ take-at-most (suc k) [] = omega arith
 take-at-most (suc k) (x ∷ l) = let h = take-at-most k l in omega arith
 
 -- what is accepted is a total that has room
-taken : (b : Built) (m : ℕ) → accepted (inRoom b m) ≡ true → (n : ℕ) × (b ≡ total n) × (n ≤ m)
+taken : (b : Built) (m : ℕ) → isTotal (inRoom b m) ≡ true → (n : ℕ) × (b ≡ total n) × (n ≤ m)
 taken (total n) m a = by (decLe n m)
   where
     by : Dec (n ≤ m) → (k : ℕ) × (total n ≡ total k) × (k ≤ m)
     by (yes h) = (n, refl, h)
     by (no h) =
-        let q : _≡_ {A = Bool} false true = ap accepted (too-short (total n) m n refl (omega arith)) ∙ a in
+        let q : _≡_ {A = Bool} false true = ap isTotal (too-short (total n) m n refl (omega arith)) ∙ a in
         let z : _≡_ {A = ℕ} 0 1 = cc in
         absurd (omega arith)
 taken (refusedAt k p) m a = let z : _≡_ {A = ℕ} 0 1 = cc in absurd (omega arith)
@@ -71,14 +72,14 @@ module _ (L : Rule) where
 
   module _ (ys : List Record) (bs : List ℕ) where
     -- an accepted list has room, and is written
-    pub fits : accepted (inRoom (totalOf L (itemsOf ys)) (length bs)) ≡ true → length (encode (map cmdOf (recsOf ys))) ≤ length bs
+    pub fits : isTotal (inRoom (totalOf L (itemsOf ys)) (length bs)) ≡ true → length (encode (map cmdOf (recsOf ys))) ≤ length bs
     fits a =
         let t = taken (totalOf L (itemsOf ys)) (length bs) a in
         let w = within-total (itemsOf ys) (t .0) (t .1) in
         let c = ap (λ (cs : List Cmd). length (encode cs)) (cmds-are ys) in
         omega (arith, t .2)
 
-    pub built : accepted (inRoom (totalOf L (itemsOf ys)) (length bs)) ≡ true
+    pub built : isTotal (inRoom (totalOf L (itemsOf ys)) (length bs)) ≡ true
         → (inRoom (totalOf L (itemsOf ys)) (length bs), over bs 0 (encode (map cmdOf (recsOf ys)))) ≡ buildOf L (itemsOf ys) bs
     built a =
         let t = taken (totalOf L (itemsOf ys)) (length bs) a in
@@ -87,7 +88,7 @@ module _ (L : Rule) where
         ∙ sym (filled L (itemsOf ys) bs (t .0) (t .1) (t .2))
 
     -- a refused one leaves the memory
-    pub not-built : accepted (inRoom (totalOf L (itemsOf ys)) (length bs)) ≡ false → (inRoom (totalOf L (itemsOf ys)) (length bs), bs) ≡ buildOf L (itemsOf ys) bs
+    pub not-built : isTotal (inRoom (totalOf L (itemsOf ys)) (length bs)) ≡ false → (inRoom (totalOf L (itemsOf ys)) (length bs), bs) ≡ buildOf L (itemsOf ys) bs
     not-built a = by (totalOf L (itemsOf ys)) refl a
       where
         refuses : (b : Built) → totalOf L (itemsOf ys) ≡ b → inRoom b (length bs) ≡ b → fill b (encode (cmdsOf (itemsOf ys))) bs ≡ (b, bs) → (inRoom (totalOf L (itemsOf ys)) (length bs), bs) ≡ buildOf L (itemsOf ys) bs
@@ -95,12 +96,12 @@ module _ (L : Rule) where
             ap (λ (x : Built). (x, bs)) (ap (λ (x : Built). inRoom x (length bs)) e ∙ same)
             ∙ sym (ap (λ (x : Built). fill x (encode (cmdsOf (itemsOf ys))) bs) e ∙ f)
 
-        by : (b : Built) → totalOf L (itemsOf ys) ≡ b → accepted (inRoom b (length bs)) ≡ false → (inRoom (totalOf L (itemsOf ys)) (length bs), bs) ≡ buildOf L (itemsOf ys) bs
+        by : (b : Built) → totalOf L (itemsOf ys) ≡ b → isTotal (inRoom b (length bs)) ≡ false → (inRoom (totalOf L (itemsOf ys)) (length bs), bs) ≡ buildOf L (itemsOf ys) bs
         by (total n) e a = in-room (decLe n (length bs))
           where
             in-room : Dec (n ≤ length bs) → (inRoom (totalOf L (itemsOf ys)) (length bs), bs) ≡ buildOf L (itemsOf ys) bs
             in-room (yes h) =
-                let q : _≡_ {A = Bool} true false = ap accepted (enough (total n) (length bs) n refl h) ∙ a in
+                let q : _≡_ {A = Bool} true false = ap isTotal (enough (total n) (length bs) n refl h) ∙ a in
                 let z : _≡_ {A = ℕ} 0 1 = cc in
                 absurd (omega arith)
             in-room (no h) =

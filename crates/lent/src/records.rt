@@ -12,7 +12,8 @@ ghost use Rattle.walk.specs.Walk.{encode};
 ghost use Rattle.build.specs.Build.{totalOf, buildOf};
 ghost use Rattle.build.specs.Records.{judged, heldBy, noRecord, cmdOf, over};
 ghost use Rattle.build.specs.Told.{toldBuild};
-ghost use Rattle.lent.specs.Records.{itemsOf, recsOf, toldTally, begun, tallied, inRoom, accepted};
+ghost use Rattle.lent.specs.Records.{itemsOf, recsOf};
+ghost use Rattle.lent.specs.Tallying.{toldTally, begun, tallied, inRoom, isTotal};
 
 // The records judged so far: what is answered if none follows, their bytes, the place of the next, and how many are still to be judged.
 // A refusal leaves none.
@@ -112,7 +113,7 @@ fn in_room(answer: BuildAnswer, room: usize) -> BuildAnswer
 }
 
 fn is_total(answer: BuildAnswer) -> bool
-    ensures { λ r. ⌜ r ≡ accepted (toldBuild answer) ⌝ }
+    ensures { λ r. ⌜ r ≡ isTotal (toldBuild answer) ⌝ }
 {
     match answer {
         BuildAnswer::Total(_) => true,

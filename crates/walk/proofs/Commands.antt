@@ -15,7 +15,7 @@ use Rattle.table.specs.Answers.{Answer, given, refused}
 use Rattle.table.specs.declared.rules.Direction.{Direction}
 use Rattle.table.specs.Table.{Row, lengthIn}
 use Rattle.fields.specs.Lists.{tabulate}
-use Rattle.walk.specs.Command.{StandsAt}
+use Rattle.walk.specs.Room.{StandsAt}
 use Rattle.walk.specs.Step.{Found, ended, command, stopped, Heading, heading, foundAt, inNumbers}
 use Rattle.walk.specs.Walk.{Rule, Cmd, size}
 use Rattle.walk.proofs.Steps.{Goes, command-told, found-command}

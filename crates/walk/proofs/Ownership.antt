@@ -9,7 +9,7 @@ use lib.ListN.{length, take, drop, length-append, length-drop}
 use lib.Seq.{take-append-seam, drop-at, drop-drop}
 use denote.Ref.{RefT}
 use Rattle.table.specs.Answers.{Answer, given}
-use Rattle.walk.specs.Ownership.{offsetOf, Ends, Owned, EveryByteOwned, StopsOnlyThere, Division, OneDivision, FrontsAreBeginnings, CountFits, Resumes, Steps, finds, hands, StepAndWalkAgree, StopsStay, PayloadShown, WalksBack, EqualBytesEqualLists}
+use Rattle.walk.specs.Ownership.{offsetOf, Ends, Owned, EveryByteOwned, StopsOnlyThere, Division, OneDivision, FrontsAreBeginnings, CountFits, Resumes, Steps, finds, hands, StepAndWalkAgree, StopsStay, PayloadShown, EncodedWalksBack, SameBytesSameCommands}
 use Rattle.walk.specs.Part.{payloadPart}
 use Rattle.walk.specs.Step.{Found, stopped, firstOf, inNumbers, stepAt}
 use Rattle.walk.specs.Walk.{Rule, Cmd, Placed, Ending, end, stop, placeOf, Walk, finish, after, walkFrom, walkOf, encode, size, place, bare}
@@ -26,13 +26,13 @@ few [] = omega arith
 few (p ∷ ps) = let m = few ps in simp length-append (omega arith)
 
 module _ (L : Rule) where
-  pub walks-back : WalksBack L
-  walks-back cs h =
+  pub encoded-walks-back : EncodedWalksBack L
+  encoded-walks-back cs h =
       ap (walkOf L) (sym (append-nil (encode cs))) ∙ walk-front L 0 cs [] h ∙ simp (walk-nil, append-nil, zero-add)
 
-  pub equal-bytes-equal-lists : EqualBytesEqualLists L
-  equal-bytes-equal-lists cs ds hc hd e =
-      let same : place 0 cs ≡ place 0 ds = ap (λ (w : Walk). w .cmds) (sym (walks-back cs hc) ∙ ap (walkOf L) e ∙ walks-back ds hd) in
+  pub same-bytes-same-commands : SameBytesSameCommands L
+  same-bytes-same-commands cs ds hc hd e =
+      let same : place 0 cs ≡ place 0 ds = ap (λ (w : Walk). w .cmds) (sym (encoded-walks-back cs hc) ∙ ap (walkOf L) e ∙ encoded-walks-back ds hd) in
       sym (bare-place 0 cs) ∙ ap bare same ∙ bare-place 0 ds
 
 module _ (L : Rule) (s : List ℕ) where

@@ -11,9 +11,9 @@ use lib.ListN.{length, getD, take, drop, length-drop, take-append-drop, drop-of-
 use lib.Seq.{drop-cons, drop-drop, length-take-le}
 use borrow.Author.Tests.{le-leb, lt-leb, lt-ltb, le-ltb}
 use Rattle.table.specs.Answers.{Answer, given, refused, accepted}
-use Rattle.walk.specs.Command.{StandsAt, roomFor}
 use Rattle.walk.specs.Ownership.{Ends, nothing-left, no-cid, cut-short}
 use Rattle.walk.specs.Lanes.{more, Leads}
+use Rattle.walk.specs.Room.{StandsAt, roomFor}
 use Rattle.walk.specs.Step.{Found, ended, command, stopped, firstOf, firstMove, foundAt, Heading, heading, inNumbers, stepAt, tally, tallyFrom}
 use Rattle.walk.specs.Walk.{Rule, Cmd, Ending, end, stop, placeOf, Walk, finish, after, walkFrom, size}
 use Rattle.walk.proofs.Laws.{ends-at, walk-ends, walk-command}
@@ -240,5 +240,6 @@ module _ (L : Rule) (s : List ℕ) where
   leads-to-end {count = count} {at = at} a l e f =
       sym (l .same ∙ ap (more count) (tally-step at ∙ ap (tallyAfter L s at) e ∙ f) ∙ ap (λ (n : ℕ). (a, n)) (add-zero count))
 
-  pub from-start : tallyFrom L s 0 ≡ tally (walkFrom L 0 s)
-  from-start = tally-in (omega arith) refl
+  -- where the front of a stream leads to, the rest of its walk begins
+  pub leads-from-start : {n at m : ℕ} {a : Answer Ending} → Leads L s 0 n at → (a, m) ≡ tallyFrom L s at → (a, n + m) ≡ tally (walkFrom L 0 s)
+  leads-from-start {n = n} l e = ap (more n) e ∙ sym (l .same) ∙ tally-in (omega arith) refl

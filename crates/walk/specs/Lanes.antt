@@ -1,4 +1,4 @@
--- A part of a walk.
+-- Not for the auditor: only private functions cite this. What a lane of src/lanes.rt is: a part of a walk.
 use Prim.Native.Nat.{ℕ, _+_, _≤_}
 use mathlib.Core.List.{List}
 use mathlib.Core.Path.{_≡_}

@@ -4,6 +4,7 @@ pub mod Command
 pub mod Lanes
 pub mod Ownership
 pub mod Part
+pub mod Room
 pub mod Step
 pub mod Told
 pub mod Walk

@@ -92,9 +92,9 @@ PayloadShown L s = (at next : ℕ) (c : Cmd) → foundAt L (s .now) at ≡ given
 
 module _ (L : Rule) where
   -- a list of well-formed commands, encoded, walks back to itself and the end
-  abbrev pub WalksBack : Type 0
-  WalksBack = (cs : List Cmd) → WellFormed L cs → walkOf L (encode cs) ≡ record { cmds = place 0 cs; ending = end (length (encode cs)) }
+  abbrev pub EncodedWalksBack : Type 0
+  EncodedWalksBack = (cs : List Cmd) → WellFormed L cs → walkOf L (encode cs) ≡ record { cmds = place 0 cs; ending = end (length (encode cs)) }
 
   -- equal bytes, equal lists
-  abbrev pub EqualBytesEqualLists : Type 0
-  EqualBytesEqualLists = (cs ds : List Cmd) → WellFormed L cs → WellFormed L ds → encode cs ≡ encode ds → cs ≡ ds
+  abbrev pub SameBytesSameCommands : Type 0
+  SameBytesSameCommands = (cs ds : List Cmd) → WellFormed L cs → WellFormed L ds → encode cs ≡ encode ds → cs ≡ ds

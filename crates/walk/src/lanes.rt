@@ -104,23 +104,16 @@ fn behind_any(rules: Rules, stream: &[u8], at: usize) -> Onward
 }
 
 // Steps in all three lanes, until one ends, comes to where the next began, or to where the stream may have no room for a command.
-fn together(
-    rules: Rules,
-    stream: &[u8],
-    from: usize,
-    second: usize,
-    third: usize,
-    last: usize,
-) -> Lanes
-    requires { ⌜ (from ≤ length (now stream)) × (second ≤ last) × (third ≤ last) × (last + 6 ≤ length (now stream)) ⌝ }
-    ensures { λ r. ⌜ Leads (lengthOf rules) (now (stream .entry)) from (r .count) (r .first)
+fn together(rules: Rules, stream: &[u8], second: usize, third: usize, last: usize) -> Lanes
+    requires { ⌜ (second ≤ last) × (third ≤ last) × (last + 6 ≤ length (now stream)) ⌝ }
+    ensures { λ r. ⌜ Leads (lengthOf rules) (now (stream .entry)) 0 (r .count) (r .first)
         × Leads (lengthOf rules) (now (stream .entry)) second (r .count) (r .second)
         × Leads (lengthOf rules) (now (stream .entry)) third (r .count) (r .third)
         × (r .first ≤ length (now (stream .entry)))
         × (r .second ≤ length (now (stream .entry)))
         × (r .third ≤ length (now (stream .entry))) ⌝ }
 {
-    let mut a = from;
+    let mut a: usize = 0;
     let mut b = second;
     let mut c = third;
     let mut count: usize = 0;
@@ -183,29 +176,23 @@ fn alone(rules: Rules, stream: &[u8], from: usize, place: usize) -> Way
 }
 
 // The front of the walk that three lanes make. Of a short stream, nothing.
-pub(crate) fn in_lanes(rules: Rules, stream: &[u8], from: usize) -> Way
-    ensures { λ r. ⌜ Leads (lengthOf rules) (now (stream .entry)) from (r .count) (r .at) ⌝ }
+pub(crate) fn in_lanes(rules: Rules, stream: &[u8]) -> Way
+    ensures { λ r. ⌜ Leads (lengthOf rules) (now (stream .entry)) 0 (r .count) (r .at) ⌝ }
 {
-    if stream.len() < from {
-        return Way { at: from, count: 0 };
+    if stream.len() < LONG {
+        return Way { at: 0, count: 0 };
     }
-    let left = stream.len() - from;
-    if left < LONG {
-        return Way { at: from, count: 0 };
-    }
-    let third = left / 3;
-    let near = from + third;
+    let near = stream.len() / 3;
     let second_place = place_near(rules, stream, near);
-    let far = near + third;
-    let third_place = place_near(rules, stream, far);
+    let third_place = place_near(rules, stream, near + near);
     let last = stream.len() - LONGEST;
     if last < second_place {
-        return Way { at: from, count: 0 };
+        return Way { at: 0, count: 0 };
     }
     if last < third_place {
-        return Way { at: from, count: 0 };
+        return Way { at: 0, count: 0 };
     }
-    let lanes = together(rules, stream, from, second_place, third_place, last);
+    let lanes = together(rules, stream, second_place, third_place, last);
     let first = alone(rules, stream, lanes.first, second_place);
     let one = lanes.count + first.count;
     if first.at != second_place {

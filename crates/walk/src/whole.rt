@@ -23,13 +23,12 @@ pub struct WalkEnd {
     pub count: usize,
 }
 
-// The walk from an offset on.
+// The walk from an offset on, step by step.
 pub fn walk_from(rules: Rules, stream: &[u8], from: usize) -> WalkEnd
     ensures { λ r. ⌜ toldWalk r ≡ tallyFrom (lengthOf rules) (now (stream .entry)) from ⌝ }
 {
-    let front = in_lanes(rules, stream, from);
-    let mut at = front.at;
-    let mut count = front.count;
+    let mut at = from;
+    let mut count: usize = 0;
     loop {
         let found = step_at(rules, stream, at);
         match found {
@@ -57,9 +56,13 @@ pub fn walk_from(rules: Rules, stream: &[u8], from: usize) -> WalkEnd
     }
 }
 
-// The whole walk.
+// The whole walk. A long stream's front is walked in lanes.
 pub fn walk(rules: Rules, stream: &[u8]) -> WalkEnd
     ensures { λ r. ⌜ toldWalk r ≡ tally (walkOf (lengthOf rules) (now (stream .entry))) ⌝ }
 {
-    walk_from(rules, stream, 0)
+    let front = in_lanes(rules, stream);
+    let rest = walk_from(rules, stream, front.at);
+    let outcome = rest.outcome;
+    let count = front.count + rest.count;
+    WalkEnd { outcome, count }
 }

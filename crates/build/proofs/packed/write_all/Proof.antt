@@ -5,7 +5,8 @@ use mathlib.Core.List.{map}
 use native.Mathlib.Omega.{arith}
 use lib.ListN.{length, getD}
 use Rattle.walk.specs.Walk.{encode}
-use Rattle.build.specs.Records.{Rec, cmdOf, bytesOf, heldBy, slotAt, wholeSlots, LaidAt}
+use Rattle.build.specs.Records.{Rec, cmdOf, bytesOf, heldBy, slotAt, wholeSlots}
+use Rattle.build.specs.Laying.{LaidAt}
 use Rattle.build.proofs.Laying.{Laid, laid-none, laid-length, laid-room, laid-next, laid-all}
 use Rattle.build.proofs.Slots.{slots-length, slot-in}
 use borrow.Author.Needs.{needs}

@@ -53,7 +53,8 @@ use Rattle.build.specs.declared.packed.BuildAnswer.{BuildAnswer}
 use Rattle.build.proofs.record.Record as T
 use Rattle.build.proofs.packed.BuildAnswer as B
 use Rattle.build.proofs.packed.BuildAnswer.Laws as B′
-use Rattle.lent.specs.Records.{recsOf, itemsOf, inRoom, accepted}
+use Rattle.lent.specs.Records.{recsOf, itemsOf}
+use Rattle.lent.specs.Tallying.{inRoom, isTotal}
 use Rattle.lent.proofs.Fitting.{fits, built, not-built}
 use Rattle.lent.proofs.Lending.{LentAgain, lends-again, comes-back}
 use Rattle.lent.proofs.Values.{rulesVal, gives-usize, gives-rules, gives-answer, rules-typed, answer-typed}
@@ -169,10 +170,10 @@ module _ {M : Type 1} (𝓤 : URA M) (H : Heap 𝓤) (A : Atoms 𝓤) (W : Given
             returns ! (look ! 24 refl) $ leaves ! 4 (vacant (vacant (vacant (holding (holding (holding (holding (holding (holding (holding (holding none-left))))))))))) $ by ! (exits a z l is long says-so)
 
         -- the branch, by cases on the test's value
-        branched : (t : Bool) → t ≡ accepted (toldBuild a) → Sq W (Mid y z t bs) (runs C Λ En mir.t-5 (atRet En Post))
+        branched : (t : Bool) → t ≡ isTotal (toldBuild a) → Sq W (Mid y z t bs) (runs C Λ En mir.t-5 (atRet En Post))
         branched false f =
             first ! $ branches ! (load ! (from ! (stop !)) (look ! 10 refl)) (λ no-way. absurd no-way) (λ _. skips ! $ exec ! C Λ En mir.t-6 (atRet En Post) $
-            rest false bs refl (ap (λ (x : Built). (x, bs)) e ∙ not-built L ys bs (ap accepted (sym e) ∙ sym f)))
+            rest false bs refl (ap (λ (x : Built). (x, bs)) e ∙ not-built L ys bs (ap isTotal (sym e) ∙ sym f)))
         branched true f =
             first ! $ branches ! (load ! (from ! (stop !)) (look ! 10 refl)) (λ _.
             assigns ! (addr ! (from ! (fld ! refl (hop ! (look-in ! 18 (sub ! 0 refl (whole !))) (stop !))))) (from ! (stop !)) (init ! 6 refl (tt, tt)) $
@@ -195,8 +196,8 @@ module _ {M : Type 1} (𝓤 : URA M) (H : Heap 𝓤) (A : Atoms 𝓤) (W : Given
             forget ! 8 refl $ forget ! 10 refl $ forget ! 12 refl $ move ! (3 ∷ 2 ∷ []) $ join ! $ move ! (3 ∷ 4 ∷ 5 ∷ []) $ drop ! $ drop ! $ drop ! $ move ! (3 ∷ 1 ∷ []) $
             rest true (zs .1 .0) same (ap (λ (p : Built). (p, zs .1 .0)) e ∙ ap (λ (p : List ℕ). (inRoom (totalOf L (itemsOf ys)) (length bs), p)) e′ ∙ built L ys bs accepts)))))) (λ no-way. absurd no-way)
           where
-            accepts : accepted (inRoom (totalOf L (itemsOf ys)) (length bs)) ≡ true
-            accepts = ap accepted (sym e) ∙ sym f
+            accepts : isTotal (inRoom (totalOf L (itemsOf ys)) (length bs)) ≡ true
+            accepts = ap isTotal (sym e) ∙ sym f
 
     walk : ent 𝓤 (onEntry 𝓤 H A build-records.signature (κ, (κ′, tt)) (q, (q′, tt)) (rules, (s, (x γ bs, tt))) at) (WpFn 𝓤 H C Λ code.function (u ∷ v ∷ w ∷ []) Post)
     walk =
@@ -224,7 +225,7 @@ module _ {M : Type 1} (𝓤 : URA M) (H : Heap 𝓤) (A : Atoms 𝓤) (W : Given
         -- `is_total`
         nothing ! $ move ! (1 ∷ 0 ∷ []) $ fjoin ! $
         asks ! fm is-total.ended (is-total.clauses 𝓤 H A mem run) tests ((tt, tt, tt, (a′, tt), (z ∷ [], tt)), tt) (id⊢ 𝓤 _)
-        (and-then ! (load ! (from ! (stop !)) (look ! 19 refl)) (no-more !)) (λ t _. t ≡ accepted (toldBuild a′)) (λ t _. id⊢ 𝓤 _) (λ p t _ f is″.
+        (and-then ! (load ! (from ! (stop !)) (look ! 19 refl)) (no-more !)) (λ t _. t ≡ isTotal (toldBuild a′)) (λ t _. id⊢ 𝓤 _) (λ p t _ f is″.
         -- [the test; true; true; true; the token; true; what records owns; what out owns; its token; _10 9; _9 11; _8 13; _7 15; …]
         land ! (from ! (stop !)) (init ! 15 refl (subst (λ (p′ : Val). Holds (hasTy tyBool p′) × WT p′) (sym (ap only is″)) (tt, tt))) $ rewrite ! 15 (λ (p′ : Val). ‵ (fat fullShare tyBool l₇ 0 p′)) (ap only is″) refl $
         drop ! $ drop ! $ drop ! $ drop ! $ move ! (1 ∷ []) $ drop ! $ move ! (1 ∷ 2 ∷ []) $

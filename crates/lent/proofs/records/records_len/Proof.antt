@@ -54,7 +54,8 @@ use Rattle.build.proofs.record.Record as T
 use Rattle.build.proofs.record.Record.Laws as T′
 use Rattle.build.proofs.packed.BuildAnswer as B
 use Rattle.build.proofs.packed.BuildAnswer.Laws as B′
-use Rattle.lent.specs.Records.{Count, itemsOf, toldTally, begun, tallied}
+use Rattle.lent.specs.Records.{itemsOf}
+use Rattle.lent.specs.Tallying.{Count, toldTally, begun, tallied}
 use Rattle.lent.specs.declared.records.Tally.{Tally}
 use Rattle.lent.proofs.Counting.{Counting, counting-begun, counted-more, fewer, items-length}
 use Rattle.lent.proofs.Values.{rulesVal, answerVal, gives-usize, gives-rules, gives-answer, rules-typed, record-typed, answer-typed}

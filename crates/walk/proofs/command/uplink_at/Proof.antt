@@ -6,7 +6,8 @@ use lib.ListN.{length}
 use Rattle.table.specs.Table.{lengthOf}
 use Rattle.payloads.specs.Commands.{sentUp}
 use Rattle.payloads.proofs.Commands.{uplink-size}
-use Rattle.walk.specs.Command.{uplinkCmd, StandsAt}
+use Rattle.walk.specs.Command.{uplinkCmd}
+use Rattle.walk.specs.Room.{StandsAt}
 use Rattle.walk.specs.Step.{foundAt}
 use Rattle.walk.specs.Told.{toldStep}
 use Rattle.walk.proofs.Commands.{ends-in, ends-there, no-command}

@@ -8,20 +8,11 @@ use Rattle.walk.proofs.lanes.in_lanes.Tie as tie
 returns : tie.Need-returns
 returns c = leads-nowhere _ _ _
 
-sub-left : tie.Need-sub-left
-sub-left c = search needs
-
-returns-2 : tie.Need-returns-2
-returns-2 c = leads-nowhere _ _ _
-
-add-near : tie.Need-add-near
-add-near c = search needs
-
 place-near-requires : tie.Need-place-near-requires
 place-near-requires c κs = search needs
 
-add-far : tie.Need-add-far
-add-far c = search needs
+add-place-near : tie.Need-add-place-near
+add-place-near c = search needs
 
 place-near-requires-2 : tie.Need-place-near-requires-2
 place-near-requires-2 c κs = search needs
@@ -29,11 +20,11 @@ place-near-requires-2 c κs = search needs
 sub-last : tie.Need-sub-last
 sub-last c = search needs
 
+returns-2 : tie.Need-returns-2
+returns-2 c = leads-nowhere _ _ _
+
 returns-3 : tie.Need-returns-3
 returns-3 c = leads-nowhere _ _ _
-
-returns-4 : tie.Need-returns-4
-returns-4 c = leads-nowhere _ _ _
 
 together-requires : tie.Need-together-requires
 together-requires c κs = search needs
@@ -44,8 +35,8 @@ alone-requires c κs = search needs
 add-one : tie.Need-add-one
 add-one c = search needs
 
-returns-5 : tie.Need-returns-5
-returns-5 c = leads-on _ _ (c .before .before .before .before .before .together .ensures .0) (c .before .before .before .before .alone .ensures .0)
+returns-4 : tie.Need-returns-4
+returns-4 c = leads-on _ _ (c .before .before .before .before .before .together .ensures .0) (c .before .before .before .before .alone .ensures .0)
 
 alone-requires-2 : tie.Need-alone-requires-2
 alone-requires-2 c κs = search needs
@@ -56,8 +47,8 @@ add-more c = search needs
 add-two : tie.Need-add-two
 add-two c = search needs
 
-returns-6 : tie.Need-returns-6
-returns-6 c =
+returns-5 : tie.Need-returns-5
+returns-5 c =
     let lanes = c .before .before .before .before .before .before .before .before .before .before .together .ensures in
     let first = c .before .before .before .before .before .before .before .before .before .alone .ensures in
     let second = c .before .before .before .before .alone2 .ensures in
@@ -66,8 +57,8 @@ returns-6 c =
 add-three : tie.Need-add-three
 add-three c = search needs
 
-returns-7 : tie.Need-returns-7
-returns-7 c =
+returns-6 : tie.Need-returns-6
+returns-6 c =
     let lanes = c .before .before .before .before .before .before .before .before .before .before .before .together .ensures in
     let first = c .before .before .before .before .before .before .before .before .before .before .alone .ensures in
     let second = c .before .before .before .before .before .alone2 .ensures in
@@ -81,22 +72,19 @@ in-lanes-spec =
     tie.close
     (tie.spec
     returns
-    sub-left
-    returns-2
-    add-near
     place-near-requires
-    add-far
+    add-place-near
     place-near-requires-2
     sub-last
+    returns-2
     returns-3
-    returns-4
     together-requires
     alone-requires
     add-one
-    returns-5
+    returns-4
     alone-requires-2
     add-more
     add-two
-    returns-6
+    returns-5
     add-three
-    returns-7)
+    returns-6)

@@ -12,8 +12,8 @@ use Rattle.walk.proofs.lanes.together.Statement.{statement}
 use Rattle.walk.proofs.lanes.together.Tie as tie
 
 abbrev Inv-loop : tie.InvT-loop
-Inv-loop rules stream from second third last a₀ b₀ c₀ count₀ a b c count =
-    Leads (lengthOf rules) stream from count a
+Inv-loop rules stream second third last a₀ b₀ c₀ count₀ a b c count =
+    Leads (lengthOf rules) stream 0 count a
     × Leads (lengthOf rules) stream second count b
     × Leads (lengthOf rules) stream third count c
     × (a ≤ length stream)
@@ -21,7 +21,7 @@ Inv-loop rules stream from second third last a₀ b₀ c₀ count₀ a b c count
     × (c ≤ length stream)
 
 abbrev μ-loop : tie.MeasureT-loop
-μ-loop rules stream from second third last a₀ b₀ c₀ count₀ a b c count = length stream - a
+μ-loop rules stream second third last a₀ b₀ c₀ count₀ a b c count = length stream - a
 
 loop-holds : tie.Need-loop-holds Inv-loop μ-loop
 loop-holds c = (leads-nowhere _ _ _, leads-nowhere _ _ _, leads-nowhere _ _ _, omega arith, omega arith, omega arith)

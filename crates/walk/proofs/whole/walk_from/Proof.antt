@@ -7,7 +7,7 @@ use lib.ListN.{length}
 use Rattle.table.specs.Table.{lengthOf}
 use Rattle.walk.specs.Lanes.{Leads}
 use Rattle.walk.specs.Told.{toldStep}
-use Rattle.walk.proofs.Steps.{step-on, leads-behind, leads-on, leads-to-end}
+use Rattle.walk.proofs.Steps.{step-on, leads-nowhere, leads-behind, leads-on, leads-to-end}
 use borrow.Author.Needs.{needs}
 use Rattle.walk.proofs.whole.walk_from.Statement.{statement}
 use Rattle.walk.proofs.whole.walk_from.Tie as tie
@@ -18,11 +18,8 @@ Inv-loop rules stream from at₀ count₀ at count = Leads (lengthOf rules) stre
 abbrev μ-loop : tie.MeasureT-loop
 μ-loop rules stream from at₀ count₀ at count = length stream - at
 
-in-lanes-requires : tie.Need-in-lanes-requires Inv-loop μ-loop
-in-lanes-requires c κs = search needs
-
 loop-holds : tie.Need-loop-holds Inv-loop μ-loop
-loop-holds c = c .in-lanes .ensures
+loop-holds c = leads-nowhere _ _ _
 
 step-at-requires : tie.Need-step-at-requires Inv-loop μ-loop
 step-at-requires c κs = search needs
@@ -65,7 +62,6 @@ walk-from-spec =
     (tie.spec
     Inv-loop
     μ-loop
-    in-lanes-requires
     loop-holds
     step-at-requires
     enum-known-found

@@ -8,7 +8,7 @@ use Rattle.table.specs.Table.{lengthOf}
 use Rattle.build.specs.Records.{judged, heldBy}
 use Rattle.build.specs.Told.{toldJudged}
 use Rattle.build.proofs.Judging.{at-most-six}
-use Rattle.lent.specs.Records.{tallied, toldTally}
+use Rattle.lent.specs.Tallying.{tallied, toldTally}
 use borrow.Author.Needs.{needs}
 use Rattle.lent.proofs.records.Tally.with.Statement.{statement}
 use Rattle.lent.proofs.records.Tally.with.Tie as tie
