@@ -1,5 +1,4 @@
 pub mod Build
-pub mod Cases
 pub mod Laying
 pub mod Records
 pub mod ThereAndBack

@@ -28,7 +28,7 @@ use Rattle.claims.specs.Handing.{
   Front,
   withPayload,
   onward,
-  AtStart,
+  byOffsets,
   StepAsked,
   UplinkAsked,
   DownlinkAsked,
@@ -200,7 +200,7 @@ told-whole L stream at x p t q =
 -- one that is asked by offsets
 by-offsets : (L : Rule) (s : List ℕ) (ask : ℕ → Answer (Found Cmd) → ℕ → Type 2)
     → ((at at' : ℕ) (a : Answer (Found Cmd)) → ask at a at' → (a ≡ foundAt L s at) × (at' ≡ onward a at))
-    → Faithful L s (record { State = ℕ; begin = AtStart; ask = ask; offset = λ at. at })
+    → Faithful L s (byOffsets ask)
 by-offsets L s ask h = record {
   Sound = λ at. Unit;
   begins = λ at b. (tt, b .zero);
@@ -228,7 +228,14 @@ uplink-faithful stream = by-offsets (lengthOf sentUp) (now stream) (UplinkAsked 
 pub downlink-faithful : (stream : RefT (List ℕ)) → Faithful (lengthOf sentDown) (now stream) (downlinkSteps stream)
 downlink-faithful stream = by-offsets (lengthOf sentDown) (now stream) (DownlinkAsked stream) (downlink-asked stream)
 
--- an iterator keeps its stream and its rules
+-- an iterator moves as one does who reads by offsets
+moved : (a : Answer (Found Cmd)) (at : ℕ) → movedTo (inNumbers a) at ≡ onward a at
+moved (given (command c next)) at = refl
+moved (given ended) at = refl
+moved (given (stopped n o)) at = refl
+moved (refused n) at = refl
+
+-- and keeps its stream and its rules
 module _ (rules : Rules) (stream : RefT (List ℕ)) where
   pub record Keeps (it : MacCommandIterator) : Type 0 where
     pub same-stream : it .«data» ≡ stream
@@ -258,7 +265,7 @@ module _ (rules : Rules) (stream : RefT (List ℕ)) where
       told-whole L (now it .«data») (now it .index) (toldStep r) p (ap (λ x. x .0) e) (g .1 .1) in
       let numbers : inNumbers (withPayload (toldStep r) (now p)) ≡ stepAt L (now (now it .«data»)) (now it .index) = ap inNumbers whole in (
         whole ∙ its-step rules stream (now it) k,
-        ap (λ x. x .1 .index) e ∙ sym (ap (λ (x : Answer (Found Heading)). movedTo x (now it .index)) numbers),
+        ap (λ x. x .1 .index) e ∙ sym (ap (λ (x : Answer (Found Heading)). movedTo x (now it .index)) numbers) ∙ moved (withPayload (toldStep r) (now p)) (now it .index),
         record { same-stream = ap (λ x. x .1 .«data») e ∙ k .same-stream; same-rules = ap (λ x. x .1 .rules) e ∙ k .same-rules },
       )
 

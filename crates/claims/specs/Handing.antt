@@ -8,18 +8,15 @@ use contract.Lifetimes.{Lfts}
 use Rattle.table.specs.Answers.{Answer, given, refused}
 use Rattle.table.specs.declared.rules.Rules.{Rules}
 use Rattle.payloads.specs.Commands.{sentUp, sentDown}
-use Rattle.walk.specs.Command.{uplinkCmd}
-use Rattle.walk.specs.Part.{Part}
 use Rattle.walk.specs.Ownership.{offsetOf}
-use Rattle.walk.specs.Step.{Found, ended, command, stopped, Heading, firstOf, retold, inNumbers}
+use Rattle.walk.specs.Step.{Found, ended, command, stopped, Heading, firstOf, retold}
 use Rattle.walk.specs.Told.{toldStep, toldUplinkStep, toldDownlinkStep, toldWalk}
-use Rattle.walk.specs.Walk.{Cmd, Placed, Ending, placeOf, bare}
+use Rattle.walk.specs.Walk.{Cmd, Placed, Ending, bare}
 use Rattle.walk.specs.declared.step.Step.{Step}
 use Rattle.walk.specs.declared.command.UplinkStep.{UplinkStep}
 use Rattle.walk.specs.declared.command.DownlinkStep.{DownlinkStep}
 use Rattle.walk.specs.declared.whole.WalkEnd.{WalkEnd}
 use Rattle.lent.specs.declared.iterator.MacCommandIterator.{MacCommandIterator}
-use Rattle.lent.specs.Iterator.{movedTo}
 use Rattle.walk.proofs.step.step_at.Reads as step-at
 use Rattle.walk.proofs.step.payload_at.Reads as payload-at
 use Rattle.walk.proofs.command.uplink_at.Reads as uplink-at
@@ -46,10 +43,16 @@ withPayload a payload = retold (λ (h : Heading). record { cid = h .cid; body = 
 
 -- who reads by offsets begins at 0, goes on behind a command, and stays where there is none
 abbrev pub onward : Answer (Found Cmd) → ℕ → ℕ
-onward a at = movedTo (inNumbers a) at
+onward (given (command c next)) at = next
+onward (given ended) at = at
+onward (given (stopped n o)) at = at
+onward (refused n) at = at
 
 pub record AtStart (at : ℕ) : Type 2 where
   pub zero : at ≡ 0
+
+abbrev pub byOffsets : (ℕ → Answer (Found Cmd) → ℕ → Type 2) → Front
+byOffsets ask = record { State = ℕ; begin = AtStart; ask = ask; offset = λ at. at }
 
 -- `step_at`, and `payload_at` for the payload
 pub data StepAsked (rules : Rules) (stream : RefT (List ℕ)) : ℕ → Answer (Found Cmd) → ℕ → Type 2 where
@@ -57,21 +60,21 @@ pub data StepAsked (rules : Rules) (stream : RefT (List ℕ)) : ℕ → Answer (
       → StepAsked rules stream at (withPayload (toldStep r) (now p)) (onward (withPayload (toldStep r) (now p)) at)
 
 abbrev pub steps : Rules → RefT (List ℕ) → Front
-steps rules stream = record { State = ℕ; begin = AtStart; ask = StepAsked rules stream; offset = λ at. at }
+steps rules stream = byOffsets (StepAsked rules stream)
 
 -- `uplink_at`
 pub data UplinkAsked (stream : RefT (List ℕ)) : ℕ → Answer (Found Cmd) → ℕ → Type 2 where
   asked : (at : ℕ) (r : UplinkStep) → Gives uplink-at.Post (stream, (at, tt)) r → UplinkAsked stream at (toldUplinkStep r) (onward (toldUplinkStep r) at)
 
 abbrev pub uplinkSteps : RefT (List ℕ) → Front
-uplinkSteps stream = record { State = ℕ; begin = AtStart; ask = UplinkAsked stream; offset = λ at. at }
+uplinkSteps stream = byOffsets (UplinkAsked stream)
 
 -- `downlink_at`
 pub data DownlinkAsked (stream : RefT (List ℕ)) : ℕ → Answer (Found Cmd) → ℕ → Type 2 where
   asked : (at : ℕ) (r : DownlinkStep) → Gives downlink-at.Post (stream, (at, tt)) r → DownlinkAsked stream at (toldDownlinkStep r) (onward (toldDownlinkStep r) at)
 
 abbrev pub downlinkSteps : RefT (List ℕ) → Front
-downlinkSteps stream = record { State = ℕ; begin = AtStart; ask = DownlinkAsked stream; offset = λ at. at }
+downlinkSteps stream = byOffsets (DownlinkAsked stream)
 
 -- `MacCommandIterator`: made by `new` or by a parse function, asked by `next`, with `payload_at` for the payload
 pub data Made (stream : RefT (List ℕ)) : Rules → MacCommandIterator → Type 2 where

@@ -1,4 +1,3 @@
-pub mod Cases
 pub mod Determined
 pub mod Margin
 pub mod Padded

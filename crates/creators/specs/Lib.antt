@@ -1,4 +1,3 @@
-pub mod Cases
 pub mod Image
 pub mod Kinds
 pub mod Setters

@@ -1,4 +1,3 @@
-pub mod Cases
 pub mod Determined
 pub mod Lists
 pub mod Masks

@@ -1,4 +1,3 @@
-pub mod Cases
 pub mod Frequency
 pub mod Lists
 pub mod Mask

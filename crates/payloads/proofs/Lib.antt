@@ -1,4 +1,3 @@
-pub mod Cases
 pub mod Commands
 pub mod Determined
 pub mod Low

@@ -1,6 +1,5 @@
 pub mod Acceptance
 pub mod Bytes
-pub mod Cases
 pub mod Commands
 pub mod Meanings
 pub mod Told

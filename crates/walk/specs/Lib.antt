@@ -1,4 +1,3 @@
-pub mod Cases
 pub mod Chooser
 pub mod Command
 pub mod Lanes
