@@ -1,5 +1,4 @@
 pub mod Commands
 pub mod Determined
 pub mod Low
-pub mod Rows
 pub mod Told
