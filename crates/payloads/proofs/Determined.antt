@@ -22,8 +22,6 @@ use Rattle.payloads.proofs.Told.{
   DeviceTimeAns·tells,
   LinkCheckAns·bytes-tell,
   LinkADRReq·bytes-tell,
-  uplink-tells,
-  downlink-tells,
 }
 use Rattle.payloads.proofs.link_check.LinkCheckReqPayload.new.Reads as link-check-req-new
 use Rattle.payloads.proofs.link_check.LinkCheckReqPayload.cid.Reads as link-check-req-cid
@@ -164,12 +162,10 @@ use Rattle.payloads.proofs.device_time.DeviceTimeAnsPayload.len.Reads a
 use Rattle.payloads.proofs.device_time.DeviceTimeAnsPayload.bytes.Reads as device-time-ans-bytes
 use Rattle.payloads.proofs.device_time.DeviceTimeAnsPayload.seconds.Reads as device-time-ans-seconds
 use Rattle.payloads.proofs.device_time.DeviceTimeAnsPayload.nano_seconds.Reads as device-time-ans-nano-seconds
-use Rattle.payloads.proofs.uplink.UplinkMacCommand.new.Reads as uplink-new
 use Rattle.payloads.proofs.uplink.UplinkMacCommand.len.Reads as uplink-len
 use Rattle.payloads.proofs.uplink.UplinkMacCommand.uplink.Reads as uplink-uplink
 use Rattle.payloads.proofs.uplink.UplinkMacCommand.cid.Reads as uplink-cid
 use Rattle.payloads.proofs.uplink.UplinkMacCommand.bytes.Reads as uplink-bytes
-use Rattle.payloads.proofs.downlink.DownlinkMacCommand.new.Reads as downlink-new
 use Rattle.payloads.proofs.downlink.DownlinkMacCommand.len.Reads as downlink-len
 use Rattle.payloads.proofs.downlink.DownlinkMacCommand.uplink.Reads as downlink-uplink
 use Rattle.payloads.proofs.downlink.DownlinkMacCommand.cid.Reads as downlink-cid
@@ -595,9 +591,6 @@ device-time-ans-seconds-one _ _ _ _ _ _ p q = p ∙ sym q
 device-time-ans-nano-seconds-one : Fixed device-time-ans-nano-seconds.Post
 device-time-ans-nano-seconds-one _ _ _ _ _ _ p q = p ∙ sym q
 
-uplink-new-one : Fixed uplink-new.Post
-uplink-new-one _ _ _ _ _ _ p q = uplink-tells (p ∙ sym q)
-
 uplink-len-one : Fixed uplink-len.Post
 uplink-len-one _ _ _ _ _ _ p q = p ∙ sym q
 
@@ -609,9 +602,6 @@ uplink-cid-one _ _ _ _ _ _ p q = p ∙ sym q
 
 uplink-bytes-one : Fixed uplink-bytes.Post
 uplink-bytes-one _ _ _ _ _ _ p q = room-tells (p ∙ sym q)
-
-downlink-new-one : Fixed downlink-new.Post
-downlink-new-one _ _ _ _ _ _ p q = downlink-tells (p ∙ sym q)
 
 downlink-len-one : Fixed downlink-len.Post
 downlink-len-one _ _ _ _ _ _ p q = p ∙ sym q

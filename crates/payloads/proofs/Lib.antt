@@ -2,5 +2,4 @@ pub mod Cases
 pub mod Commands
 pub mod Determined
 pub mod Low
-pub mod Rows
 pub mod Told

@@ -1,14 +1,10 @@
 -- The commands of each direction: which command of the table a value is, and the bytes of its payload.
 use Prim.Native.Nat.{ℕ}
 use mathlib.Core.List.{List, _++_}
-use mathlib.Core.Option.{Option, none, some}
 use lib.ListN.{length, replicate, take}
-use Rattle.table.specs.Answers.{Answer, given, refused}
-use Rattle.table.specs.Refusals.{numberOf}
 use Rattle.table.specs.Table.{Command, named}
 use Rattle.table.specs.declared.rules.Direction.the-variants.{Down, Up}
 use Rattle.table.specs.declared.rules.Rules.{Rules}
-use Rattle.fields.specs.Lists.{exactly}
 use Rattle.payloads.specs.Bytes.{
   LinkCheckReq·bytes,
   LinkCheckAns·bytes,
@@ -33,12 +29,8 @@ use Rattle.payloads.specs.Bytes.{
 }
 use Rattle.payloads.specs.declared.uplink.UplinkMacCommand.{UplinkMacCommand}
 use Rattle.payloads.specs.declared.uplink.UplinkMacCommand.the-variants as Uplink
-use Rattle.payloads.specs.declared.uplink.UplinkMacCommandAnswer.{UplinkMacCommandAnswer}
-use Rattle.payloads.specs.declared.uplink.UplinkMacCommandAnswer.the-variants as UplinkAnswer
 use Rattle.payloads.specs.declared.downlink.DownlinkMacCommand.{DownlinkMacCommand}
 use Rattle.payloads.specs.declared.downlink.DownlinkMacCommand.the-variants as Downlink
-use Rattle.payloads.specs.declared.downlink.DownlinkMacCommandAnswer.{DownlinkMacCommandAnswer}
-use Rattle.payloads.specs.declared.downlink.DownlinkMacCommandAnswer.the-variants as DownlinkAnswer
 
 -- the rules of each direction
 abbrev pub sentUp : Rules
@@ -74,11 +66,6 @@ uplinkBytes (Uplink.TXParamSetupAns p) = TXParamSetupAns·bytes p
 uplinkBytes (Uplink.DlChannelAns p) = DlChannelAns·bytes p
 uplinkBytes (Uplink.DeviceTimeReq p) = DeviceTimeReq·bytes p
 
--- its CID and the bytes of its payload
-abbrev pub toldUplink : UplinkMacCommandAnswer → Answer (ℕ × List ℕ)
-toldUplink (UplinkAnswer.Read c) = given (uplinkEntry c .cid, uplinkBytes c)
-toldUplink (UplinkAnswer.Refused n) = refused (numberOf n)
-
 -- ---- Downlink
 
 -- the command that it is in the table
@@ -105,29 +92,6 @@ downlinkBytes (Downlink.RXTimingSetupReq p) = RXTimingSetupReq·bytes p
 downlinkBytes (Downlink.TXParamSetupReq p) = TXParamSetupReq·bytes p
 downlinkBytes (Downlink.DlChannelReq p) = DlChannelReq·bytes p
 downlinkBytes (Downlink.DeviceTimeAns p) = DeviceTimeAns·bytes p
-
--- its CID and the bytes of its payload
-abbrev pub toldDownlink : DownlinkMacCommandAnswer → Answer (ℕ × List ℕ)
-toldDownlink (DownlinkAnswer.Read c) = given (downlinkEntry c .cid, downlinkBytes c)
-toldDownlink (DownlinkAnswer.Refused n) = refused (numberOf n)
-
--- ---- Made from bytes
-
-abbrev pub withCid : ℕ → Answer (List ℕ) → Answer (ℕ × List ℕ)
-withCid cid (given s) = given (cid, s)
-withCid cid (refused n) = refused n
-
--- a command of the table, from the bytes of its payload
-abbrev pub commandFrom : Command → List ℕ → Answer (ℕ × List ℕ)
-commandFrom c s = withCid (c .cid) (exactly (c .size) s)
-
-abbrev pub sized : Option ℕ → ℕ → List ℕ → Answer (ℕ × List ℕ)
-sized none cid s = refused 1
-sized (some n) cid s = withCid cid (exactly n s)
-
--- the command of a CID, by any rule L. Refusal 1, UnknownMacCommand, for a byte that is no CID; then 3, WrongLength, for bytes that are not as many as the rule says
-abbrev pub commandOf : (ℕ → Option ℕ) → ℕ → List ℕ → Answer (ℕ × List ℕ)
-commandOf L cid s = sized (L cid) cid s
 
 -- ---- In a fixed room
 

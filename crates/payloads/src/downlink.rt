@@ -1,28 +1,17 @@
 use crate::dev_status::DevStatusReqPayload;
-use crate::device_time::DeviceTimeAnsAnswer;
 use crate::device_time::DeviceTimeAnsPayload;
-use crate::dl_channel::DlChannelReqAnswer;
 use crate::dl_channel::DlChannelReqPayload;
-use crate::duty_cycle::DutyCycleReqAnswer;
 use crate::duty_cycle::DutyCycleReqPayload;
-use crate::link_adr::LinkADRReqAnswer;
 use crate::link_adr::LinkADRReqPayload;
-use crate::link_check::LinkCheckAnsAnswer;
 use crate::link_check::LinkCheckAnsPayload;
-use crate::new_channel::NewChannelReqAnswer;
 use crate::new_channel::NewChannelReqPayload;
 use crate::payload_bytes::PayloadBytes;
-use crate::rx_param_setup::RXParamSetupReqAnswer;
 use crate::rx_param_setup::RXParamSetupReqPayload;
-use crate::rx_timing_setup::RXTimingSetupReqAnswer;
 use crate::rx_timing_setup::RXTimingSetupReqPayload;
-use crate::tx_param_setup::TXParamSetupReqAnswer;
 use crate::tx_param_setup::TXParamSetupReqPayload;
-use table::Refusal;
 ghost use mathlib.Core.Path.{_≡_};
-ghost use mathlib.Core.List.{[]};
-ghost use Rattle.table.specs.Table.{named, flagOf, lengthOf};
-ghost use Rattle.payloads.specs.Commands.{downlinkEntry, downlinkBytes, toldDownlink, sentDown, commandOf, commandFrom, inFive};
+ghost use Rattle.table.specs.Table.{flagOf};
+ghost use Rattle.payloads.specs.Commands.{downlinkEntry, downlinkBytes, inFive};
 
 // A command that the network sends.
 pub enum DownlinkMacCommand {
@@ -38,185 +27,44 @@ pub enum DownlinkMacCommand {
     DeviceTimeAns(DeviceTimeAnsPayload),
 }
 
-pub enum DownlinkMacCommandAnswer {
-    Read(DownlinkMacCommand),
-    Refused(Refusal),
-}
-
-// A command without payload, if there are no bytes.
-fn empty(command: DownlinkMacCommand, payload: &[u8]) -> DownlinkMacCommandAnswer
-    requires { ⌜ downlinkBytes command ≡ [] ⌝ }
-    ensures { λ r. ⌜ toldDownlink r ≡ commandFrom (downlinkEntry command) (now (payload .entry)) ⌝ }
-{
-    if payload.len() == 0 {
-        DownlinkMacCommandAnswer::Read(command)
-    } else {
-        DownlinkMacCommandAnswer::Refused(Refusal::WrongLength)
-    }
-}
-
-fn link_check_ans(payload: &[u8]) -> DownlinkMacCommandAnswer
-    ensures { λ r. ⌜ toldDownlink r ≡ commandFrom (named "LinkCheckAns") (now (payload .entry)) ⌝ }
-{
-    match LinkCheckAnsPayload::new(payload) {
-        LinkCheckAnsAnswer::Read(p) =>
-            DownlinkMacCommandAnswer::Read(DownlinkMacCommand::LinkCheckAns(p)),
-        LinkCheckAnsAnswer::Refused(n) => DownlinkMacCommandAnswer::Refused(n),
-    }
-}
-
-fn link_adr_req(payload: &[u8]) -> DownlinkMacCommandAnswer
-    ensures { λ r. ⌜ toldDownlink r ≡ commandFrom (named "LinkADRReq") (now (payload .entry)) ⌝ }
-{
-    match LinkADRReqPayload::new(payload) {
-        LinkADRReqAnswer::Read(p) => DownlinkMacCommandAnswer::Read(DownlinkMacCommand::LinkADRReq(
-            p,
-        )),
-        LinkADRReqAnswer::Refused(n) => DownlinkMacCommandAnswer::Refused(n),
-    }
-}
-
-fn duty_cycle_req(payload: &[u8]) -> DownlinkMacCommandAnswer
-    ensures { λ r. ⌜ toldDownlink r ≡ commandFrom (named "DutyCycleReq") (now (payload .entry)) ⌝ }
-{
-    match DutyCycleReqPayload::new(payload) {
-        DutyCycleReqAnswer::Read(p) =>
-            DownlinkMacCommandAnswer::Read(DownlinkMacCommand::DutyCycleReq(p)),
-        DutyCycleReqAnswer::Refused(n) => DownlinkMacCommandAnswer::Refused(n),
-    }
-}
-
-fn rx_param_setup_req(payload: &[u8]) -> DownlinkMacCommandAnswer
-    ensures { λ r. ⌜ toldDownlink r ≡ commandFrom (named "RXParamSetupReq") (now (payload .entry)) ⌝ }
-{
-    match RXParamSetupReqPayload::new(payload) {
-        RXParamSetupReqAnswer::Read(p) =>
-            DownlinkMacCommandAnswer::Read(DownlinkMacCommand::RXParamSetupReq(p)),
-        RXParamSetupReqAnswer::Refused(n) => DownlinkMacCommandAnswer::Refused(n),
-    }
-}
-
-fn new_channel_req(payload: &[u8]) -> DownlinkMacCommandAnswer
-    ensures { λ r. ⌜ toldDownlink r ≡ commandFrom (named "NewChannelReq") (now (payload .entry)) ⌝ }
-{
-    match NewChannelReqPayload::new(payload) {
-        NewChannelReqAnswer::Read(p) =>
-            DownlinkMacCommandAnswer::Read(DownlinkMacCommand::NewChannelReq(p)),
-        NewChannelReqAnswer::Refused(n) => DownlinkMacCommandAnswer::Refused(n),
-    }
-}
-
-fn rx_timing_setup_req(payload: &[u8]) -> DownlinkMacCommandAnswer
-    ensures { λ r. ⌜ toldDownlink r ≡ commandFrom (named "RXTimingSetupReq") (now (payload .entry)) ⌝ }
-{
-    match RXTimingSetupReqPayload::new(payload) {
-        RXTimingSetupReqAnswer::Read(p) =>
-            DownlinkMacCommandAnswer::Read(DownlinkMacCommand::RXTimingSetupReq(p)),
-        RXTimingSetupReqAnswer::Refused(n) => DownlinkMacCommandAnswer::Refused(n),
-    }
-}
-
-fn tx_param_setup_req(payload: &[u8]) -> DownlinkMacCommandAnswer
-    ensures { λ r. ⌜ toldDownlink r ≡ commandFrom (named "TXParamSetupReq") (now (payload .entry)) ⌝ }
-{
-    match TXParamSetupReqPayload::new(payload) {
-        TXParamSetupReqAnswer::Read(p) =>
-            DownlinkMacCommandAnswer::Read(DownlinkMacCommand::TXParamSetupReq(p)),
-        TXParamSetupReqAnswer::Refused(n) => DownlinkMacCommandAnswer::Refused(n),
-    }
-}
-
-fn dl_channel_req(payload: &[u8]) -> DownlinkMacCommandAnswer
-    ensures { λ r. ⌜ toldDownlink r ≡ commandFrom (named "DlChannelReq") (now (payload .entry)) ⌝ }
-{
-    match DlChannelReqPayload::new(payload) {
-        DlChannelReqAnswer::Read(p) =>
-            DownlinkMacCommandAnswer::Read(DownlinkMacCommand::DlChannelReq(p)),
-        DlChannelReqAnswer::Refused(n) => DownlinkMacCommandAnswer::Refused(n),
-    }
-}
-
-fn device_time_ans(payload: &[u8]) -> DownlinkMacCommandAnswer
-    ensures { λ r. ⌜ toldDownlink r ≡ commandFrom (named "DeviceTimeAns") (now (payload .entry)) ⌝ }
-{
-    match DeviceTimeAnsPayload::new(payload) {
-        DeviceTimeAnsAnswer::Read(p) =>
-            DownlinkMacCommandAnswer::Read(DownlinkMacCommand::DeviceTimeAns(p)),
-        DeviceTimeAnsAnswer::Refused(n) => DownlinkMacCommandAnswer::Refused(n),
-    }
-}
-
 impl DownlinkMacCommand {
-    // The command of a CID and its payload.
-    pub fn new(cid: u8, payload: &[u8]) -> DownlinkMacCommandAnswer
-        ensures { λ r. ⌜ toldDownlink r ≡ commandOf (lengthOf sentDown) cid (now (payload .entry)) ⌝ }
-    {
-        match cid {
-            0x02 => link_check_ans(payload),
-            0x03 => link_adr_req(payload),
-            0x04 => duty_cycle_req(payload),
-            0x05 => rx_param_setup_req(payload),
-            0x06 => empty(
-                DownlinkMacCommand::DevStatusReq(DevStatusReqPayload()),
-                payload,
-            ),
-            0x07 => new_channel_req(payload),
-            0x08 => rx_timing_setup_req(payload),
-            0x09 => tx_param_setup_req(payload),
-            0x0A => dl_channel_req(payload),
-            0x0D => device_time_ans(payload),
-            _ => DownlinkMacCommandAnswer::Refused(Refusal::UnknownMacCommand),
-        }
-    }
-
     pub fn len(self) -> usize
         ensures { λ r. ⌜ r ≡ downlinkEntry self .size ⌝ }
     {
         match self {
-            DownlinkMacCommand::LinkCheckAns(_) => LinkCheckAnsPayload::len(),
-            DownlinkMacCommand::LinkADRReq(_) => LinkADRReqPayload::len(),
-            DownlinkMacCommand::DutyCycleReq(_) => DutyCycleReqPayload::len(),
-            DownlinkMacCommand::RXParamSetupReq(_) => RXParamSetupReqPayload::len(),
-            DownlinkMacCommand::DevStatusReq(_) => DevStatusReqPayload::len(),
-            DownlinkMacCommand::NewChannelReq(_) => NewChannelReqPayload::len(),
-            DownlinkMacCommand::RXTimingSetupReq(_) => RXTimingSetupReqPayload::len(),
-            DownlinkMacCommand::TXParamSetupReq(_) => TXParamSetupReqPayload::len(),
-            DownlinkMacCommand::DlChannelReq(_) => DlChannelReqPayload::len(),
-            DownlinkMacCommand::DeviceTimeAns(_) => DeviceTimeAnsPayload::len(),
+            DownlinkMacCommand::LinkCheckAns(_) => 2,
+            DownlinkMacCommand::LinkADRReq(_) => 4,
+            DownlinkMacCommand::DutyCycleReq(_) => 1,
+            DownlinkMacCommand::RXParamSetupReq(_) => 4,
+            DownlinkMacCommand::DevStatusReq(_) => 0,
+            DownlinkMacCommand::NewChannelReq(_) => 5,
+            DownlinkMacCommand::RXTimingSetupReq(_) => 1,
+            DownlinkMacCommand::TXParamSetupReq(_) => 1,
+            DownlinkMacCommand::DlChannelReq(_) => 4,
+            DownlinkMacCommand::DeviceTimeAns(_) => 5,
         }
     }
 
     pub fn uplink(self) -> bool
         ensures { λ r. ⌜ r ≡ flagOf (downlinkEntry self) ⌝ }
     {
-        match self {
-            DownlinkMacCommand::LinkCheckAns(_) => LinkCheckAnsPayload::uplink(),
-            DownlinkMacCommand::LinkADRReq(_) => LinkADRReqPayload::uplink(),
-            DownlinkMacCommand::DutyCycleReq(_) => DutyCycleReqPayload::uplink(),
-            DownlinkMacCommand::RXParamSetupReq(_) => RXParamSetupReqPayload::uplink(),
-            DownlinkMacCommand::DevStatusReq(_) => DevStatusReqPayload::uplink(),
-            DownlinkMacCommand::NewChannelReq(_) => NewChannelReqPayload::uplink(),
-            DownlinkMacCommand::RXTimingSetupReq(_) => RXTimingSetupReqPayload::uplink(),
-            DownlinkMacCommand::TXParamSetupReq(_) => TXParamSetupReqPayload::uplink(),
-            DownlinkMacCommand::DlChannelReq(_) => DlChannelReqPayload::uplink(),
-            DownlinkMacCommand::DeviceTimeAns(_) => DeviceTimeAnsPayload::uplink(),
-        }
+        false
     }
 
     pub fn cid(self) -> u8
         ensures { λ r. ⌜ r ≡ downlinkEntry self .cid ⌝ }
     {
         match self {
-            DownlinkMacCommand::LinkCheckAns(_) => LinkCheckAnsPayload::cid(),
-            DownlinkMacCommand::LinkADRReq(_) => LinkADRReqPayload::cid(),
-            DownlinkMacCommand::DutyCycleReq(_) => DutyCycleReqPayload::cid(),
-            DownlinkMacCommand::RXParamSetupReq(_) => RXParamSetupReqPayload::cid(),
-            DownlinkMacCommand::DevStatusReq(_) => DevStatusReqPayload::cid(),
-            DownlinkMacCommand::NewChannelReq(_) => NewChannelReqPayload::cid(),
-            DownlinkMacCommand::RXTimingSetupReq(_) => RXTimingSetupReqPayload::cid(),
-            DownlinkMacCommand::TXParamSetupReq(_) => TXParamSetupReqPayload::cid(),
-            DownlinkMacCommand::DlChannelReq(_) => DlChannelReqPayload::cid(),
-            DownlinkMacCommand::DeviceTimeAns(_) => DeviceTimeAnsPayload::cid(),
+            DownlinkMacCommand::LinkCheckAns(_) => 0x02,
+            DownlinkMacCommand::LinkADRReq(_) => 0x03,
+            DownlinkMacCommand::DutyCycleReq(_) => 0x04,
+            DownlinkMacCommand::RXParamSetupReq(_) => 0x05,
+            DownlinkMacCommand::DevStatusReq(_) => 0x06,
+            DownlinkMacCommand::NewChannelReq(_) => 0x07,
+            DownlinkMacCommand::RXTimingSetupReq(_) => 0x08,
+            DownlinkMacCommand::TXParamSetupReq(_) => 0x09,
+            DownlinkMacCommand::DlChannelReq(_) => 0x0A,
+            DownlinkMacCommand::DeviceTimeAns(_) => 0x0D,
         }
     }
 

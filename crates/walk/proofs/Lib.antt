@@ -6,5 +6,6 @@ pub mod Laws
 pub mod Onward
 pub mod Ownership
 pub mod Parts
+pub mod Rows
 pub mod Steps
 pub mod Told

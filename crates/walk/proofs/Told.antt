@@ -6,9 +6,7 @@ use Rattle.bits.proofs.Fixed.{by-inverse}
 use Rattle.table.specs.Answers.{Answer, given, refused}
 use Rattle.table.proofs.Told.{numbered, numbered-number}
 use Rattle.payloads.specs.declared.uplink.UplinkMacCommand.{UplinkMacCommand}
-use Rattle.payloads.specs.declared.uplink.UplinkMacCommandAnswer.the-variants as UplinkAnswer
 use Rattle.payloads.specs.declared.downlink.DownlinkMacCommand.{DownlinkMacCommand}
-use Rattle.payloads.specs.declared.downlink.DownlinkMacCommandAnswer.the-variants as DownlinkAnswer
 use Rattle.payloads.proofs.Told.{uplink-tells, downlink-tells}
 use Rattle.walk.specs.declared.command.UplinkStep.{UplinkStep}
 use Rattle.walk.specs.declared.command.UplinkStep.the-variants as UplinkStep
@@ -65,9 +63,7 @@ module _ {A B : Type 0} (f : A → B) (inj : (x y : A) → f x ≡ f y → x ≡
   retold-tells (refused k) (refused l) e = cc
 
 uplink-command-tells : (c d : UplinkMacCommand) → uplinkCmd c ≡ uplinkCmd d → c ≡ d
-uplink-command-tells c d e =
-    let same : UplinkAnswer.Read c ≡ UplinkAnswer.Read d = uplink-tells (ap (λ (x : Cmd). given (x .cid, x .body)) e) in
-    cc
+uplink-command-tells c d e = uplink-tells (ap (λ (x : Cmd). (x .cid, x .body)) e)
 
 uplinkStep : Answer (Found UplinkMacCommand) → UplinkStep
 uplinkStep (given ended) = UplinkStep.End
@@ -86,9 +82,7 @@ pub uplink-step-tells : {x y : UplinkStep} → toldUplinkStep x ≡ toldUplinkSt
 uplink-step-tells {x} {y} p = by-inverse uplinkFound uplinkStep uplink-step-back (retold-tells uplinkCmd uplink-command-tells (uplinkFound x) (uplinkFound y) p)
 
 downlink-command-tells : (c d : DownlinkMacCommand) → downlinkCmd c ≡ downlinkCmd d → c ≡ d
-downlink-command-tells c d e =
-    let same : DownlinkAnswer.Read c ≡ DownlinkAnswer.Read d = downlink-tells (ap (λ (x : Cmd). given (x .cid, x .body)) e) in
-    cc
+downlink-command-tells c d e = downlink-tells (ap (λ (x : Cmd). (x .cid, x .body)) e)
 
 downlinkStep : Answer (Found DownlinkMacCommand) → DownlinkStep
 downlinkStep (given ended) = DownlinkStep.End

@@ -5,32 +5,14 @@ use borrow.Author.Needs.{needs}
 use Rattle.payloads.proofs.link_adr.LinkADRReqPayload.new.Statement.{statement}
 use Rattle.payloads.proofs.link_adr.LinkADRReqPayload.new.Tie as tie
 
-shared-slice-read-t6 : tie.Need-shared-slice-read-t6
-shared-slice-read-t6 c = search needs
-
-shared-slice-read-t8 : tie.Need-shared-slice-read-t8
-shared-slice-read-t8 c = search needs
-
-shared-slice-read-t10 : tie.Need-shared-slice-read-t10
-shared-slice-read-t10 c = search needs
-
-shared-slice-read-t12 : tie.Need-shared-slice-read-t12
-shared-slice-read-t12 c = search needs
-
-returns : tie.Need-returns
-unfolding tabulate
-returns c = exactly-made 4 (c .before .before .before .before .before .args .«data» .now) (c .before .before .before .before .if1 .taken)
-
-returns-2 : tie.Need-returns-2
-returns-2 c = exactly-refused 4 (c .before .args .«data» .now) (c .if1 .left)
-
 pub new-spec : {M : Type 1} → statement M
+unfolding tabulate
 new-spec =
     tie.close
     (tie.spec
-    shared-slice-read-t6
-    shared-slice-read-t8
-    shared-slice-read-t10
-    shared-slice-read-t12
-    returns
-    returns-2)
+    (λ c. search needs)
+    (λ c. search needs)
+    (λ c. search needs)
+    (λ c. search needs)
+    (λ c. exactly-made 4 (c .before .before .before .before .before .args .«data» .now) (search needs))
+    (λ c. exactly-refused 4 (c .before .args .«data» .now) (search needs)))

@@ -1,129 +1,29 @@
--- `UplinkMacCommand::uplink` meets its contract: each case by its type. Assumes nothing.
+-- `UplinkMacCommand::uplink` meets its contract. Assumes nothing.
 use borrow.Author.Needs.{needs}
 use Rattle.payloads.proofs.uplink.UplinkMacCommand.uplink.Statement.{statement}
 use Rattle.payloads.proofs.uplink.UplinkMacCommand.uplink.Tie as tie
-
-enum-told : tie.Need-enum-told
-enum-told c = search needs
-
-uplink-requires : tie.Need-uplink-requires
-uplink-requires c κs = search needs
-
-enum-told-2 : tie.Need-enum-told-2
-enum-told-2 c = search needs
-
-uplink-requires-2 : tie.Need-uplink-requires-2
-uplink-requires-2 c κs = search needs
-
-enum-told-3 : tie.Need-enum-told-3
-enum-told-3 c = search needs
-
-uplink-requires-3 : tie.Need-uplink-requires-3
-uplink-requires-3 c κs = search needs
-
-enum-told-4 : tie.Need-enum-told-4
-enum-told-4 c = search needs
-
-uplink-requires-4 : tie.Need-uplink-requires-4
-uplink-requires-4 c κs = search needs
-
-enum-told-5 : tie.Need-enum-told-5
-enum-told-5 c = search needs
-
-uplink-requires-5 : tie.Need-uplink-requires-5
-uplink-requires-5 c κs = search needs
-
-enum-told-6 : tie.Need-enum-told-6
-enum-told-6 c = search needs
-
-uplink-requires-6 : tie.Need-uplink-requires-6
-uplink-requires-6 c κs = search needs
-
-enum-told-7 : tie.Need-enum-told-7
-enum-told-7 c = search needs
-
-uplink-requires-7 : tie.Need-uplink-requires-7
-uplink-requires-7 c κs = search needs
-
-enum-told-8 : tie.Need-enum-told-8
-enum-told-8 c = search needs
-
-uplink-requires-8 : tie.Need-uplink-requires-8
-uplink-requires-8 c κs = search needs
-
-enum-told-9 : tie.Need-enum-told-9
-enum-told-9 c = search needs
-
-uplink-requires-9 : tie.Need-uplink-requires-9
-uplink-requires-9 c κs = search needs
-
-enum-told-10 : tie.Need-enum-told-10
-enum-told-10 c = search needs
-
-uplink-requires-10 : tie.Need-uplink-requires-10
-uplink-requires-10 c κs = search needs
-
-returns : tie.Need-returns
-returns c = rw (c .before .enum-told .given .1) (c .uplink .ensures)
-
-returns-2 : tie.Need-returns-2
-returns-2 c = rw (c .before .enum-told2 .given .1) (c .uplink2 .ensures)
-
-returns-3 : tie.Need-returns-3
-returns-3 c = rw (c .before .enum-told3 .given .1) (c .uplink3 .ensures)
-
-returns-4 : tie.Need-returns-4
-returns-4 c = rw (c .before .enum-told4 .given .1) (c .uplink4 .ensures)
-
-returns-5 : tie.Need-returns-5
-returns-5 c = rw (c .before .enum-told5 .given .1) (c .uplink5 .ensures)
-
-returns-6 : tie.Need-returns-6
-returns-6 c = rw (c .before .enum-told6 .given .1) (c .uplink6 .ensures)
-
-returns-7 : tie.Need-returns-7
-returns-7 c = rw (c .before .enum-told7 .given .1) (c .uplink7 .ensures)
-
-returns-8 : tie.Need-returns-8
-returns-8 c = rw (c .before .enum-told8 .given .1) (c .uplink8 .ensures)
-
-returns-9 : tie.Need-returns-9
-returns-9 c = rw (c .before .enum-told9 .given .1) (c .uplink9 .ensures)
-
-returns-10 : tie.Need-returns-10
-returns-10 c = rw (c .before .enum-told10 .given .1) (c .uplink10 .ensures)
 
 pub uplink-spec : {M : Type 1} → statement M
 uplink-spec =
     tie.close
     (tie.spec
-    enum-told
-    uplink-requires
-    enum-told-2
-    uplink-requires-2
-    enum-told-3
-    uplink-requires-3
-    enum-told-4
-    uplink-requires-4
-    enum-told-5
-    uplink-requires-5
-    enum-told-6
-    uplink-requires-6
-    enum-told-7
-    uplink-requires-7
-    enum-told-8
-    uplink-requires-8
-    enum-told-9
-    uplink-requires-9
-    enum-told-10
-    uplink-requires-10
-    returns
-    returns-2
-    returns-3
-    returns-4
-    returns-5
-    returns-6
-    returns-7
-    returns-8
-    returns-9
-    returns-10)
+    (λ c. search needs)
+    (λ c. search needs)
+    (λ c. search needs)
+    (λ c. search needs)
+    (λ c. search needs)
+    (λ c. search needs)
+    (λ c. search needs)
+    (λ c. search needs)
+    (λ c. search needs)
+    (λ c. search needs)
+    (λ c. rw (c .enum-told .given .1))
+    (λ c. rw (c .enum-told2 .given .1))
+    (λ c. rw (c .enum-told3 .given .1))
+    (λ c. rw (c .enum-told4 .given .1))
+    (λ c. rw (c .enum-told5 .given .1))
+    (λ c. rw (c .enum-told6 .given .1))
+    (λ c. rw (c .enum-told7 .given .1))
+    (λ c. rw (c .enum-told8 .given .1))
+    (λ c. rw (c .enum-told9 .given .1))
+    (λ c. rw (c .enum-told10 .given .1)))
