@@ -1,6 +1,6 @@
 -- A kind, with its image, is known from what it tells: each `told` has an inverse. Assumes nothing.
 use Prim.Native.Nat.{ℕ, _-_}
-use mathlib.Core.Path.{_≡_, refl, ap}
+use mathlib.Core.Path.{_≡_, refl, ap, ap₂}
 use mathlib.Core.List.{List, [], _∷_}
 use lib.ListN.{getD}
 use Rattle.bits.proofs.Fixed.{by-inverse}
@@ -14,17 +14,15 @@ use Rattle.creators.specs.declared.kinds.DownlinkKind.the-variants as Do
 use Rattle.creators.specs.declared.kinds.DownlinkMacCommandCreator.{DownlinkMacCommandCreator}
 use Rattle.creators.specs.Kinds.{uplinkCommand, downlinkCommand, toldUplink, toldDownlink, toldImage}
 
--- the kinds by their CIDs, which begin at 2 and leave out 0B and 0C: the last is 0D's
-
-uplinkKinds : List UplinkKind
-uplinkKinds = Up.LinkCheckReq ∷ Up.LinkADRAns ∷ Up.DutyCycleAns ∷ Up.RXParamSetupAns ∷ Up.DevStatusAns ∷ Up.NewChannelAns ∷ Up.RXTimingSetupAns ∷ Up.TXParamSetupAns ∷ Up.DlChannelAns ∷ []
+-- a kind by its command's CID: these begin at 2 and leave out 0B and 0C, so the last is 0D's
+kindOf : {K : Type 0} → List K → K → Command → K
+kindOf ks last c = getD ks (c .cid - 2) last
 
 uplinkOf : Command → UplinkKind
-unfolding uplinkKinds
-uplinkOf c = getD uplinkKinds (c .cid - 2) Up.DeviceTimeReq
+uplinkOf c = kindOf (Up.LinkCheckReq ∷ Up.LinkADRAns ∷ Up.DutyCycleAns ∷ Up.RXParamSetupAns ∷ Up.DevStatusAns ∷ Up.NewChannelAns ∷ Up.RXTimingSetupAns ∷ Up.TXParamSetupAns ∷ Up.DlChannelAns ∷ []) Up.DeviceTimeReq c
 
 uplink-kind : (k : UplinkKind) → uplinkOf (uplinkCommand k) ≡ k
-unfolding uplinkOf uplinkKinds
+unfolding uplinkOf kindOf
 uplink-kind Up.LinkCheckReq = refl
 uplink-kind Up.LinkADRAns = refl
 uplink-kind Up.DutyCycleAns = refl
@@ -36,22 +34,17 @@ uplink-kind Up.TXParamSetupAns = refl
 uplink-kind Up.DlChannelAns = refl
 uplink-kind Up.DeviceTimeReq = refl
 
-uplinkTold : Command × List ℕ → UplinkMacCommandCreator
-uplinkTold c = record { kind = uplinkOf (c .0); image = c .1 }
+pub uplink-kind-tells : {k m : UplinkKind} → uplinkCommand k ≡ uplinkCommand m → k ≡ m
+uplink-kind-tells p = by-inverse uplinkCommand uplinkOf uplink-kind p
 
 pub uplink-tells : {c e : UplinkMacCommandCreator} → toldUplink c ≡ toldUplink e → c ≡ e
-unfolding uplinkTold
-uplink-tells p = by-inverse toldUplink uplinkTold (λ c. ap (λ (k : UplinkKind). record { kind = k; image = c .image }) (uplink-kind (c .kind))) p
-
-downlinkKinds : List DownlinkKind
-downlinkKinds = Down.LinkCheckAns ∷ Down.LinkADRReq ∷ Down.DutyCycleReq ∷ Down.RXParamSetupReq ∷ Down.DevStatusReq ∷ Down.NewChannelReq ∷ Down.RXTimingSetupReq ∷ Down.TXParamSetupReq ∷ Down.DlChannelReq ∷ []
+uplink-tells p = ap₂ (λ k i. record { kind = k; image = i }) (uplink-kind-tells (ap (λ t. t .0) p)) (ap (λ t. t .1) p)
 
 downlinkOf : Command → DownlinkKind
-unfolding downlinkKinds
-downlinkOf c = getD downlinkKinds (c .cid - 2) Down.DeviceTimeAns
+downlinkOf c = kindOf (Down.LinkCheckAns ∷ Down.LinkADRReq ∷ Down.DutyCycleReq ∷ Down.RXParamSetupReq ∷ Down.DevStatusReq ∷ Down.NewChannelReq ∷ Down.RXTimingSetupReq ∷ Down.TXParamSetupReq ∷ Down.DlChannelReq ∷ []) Down.DeviceTimeAns c
 
 downlink-kind : (k : DownlinkKind) → downlinkOf (downlinkCommand k) ≡ k
-unfolding downlinkOf downlinkKinds
+unfolding downlinkOf kindOf
 downlink-kind Down.LinkCheckAns = refl
 downlink-kind Down.LinkADRReq = refl
 downlink-kind Down.DutyCycleReq = refl
@@ -63,12 +56,11 @@ downlink-kind Down.TXParamSetupReq = refl
 downlink-kind Down.DlChannelReq = refl
 downlink-kind Down.DeviceTimeAns = refl
 
-downlinkTold : Command × List ℕ → DownlinkMacCommandCreator
-downlinkTold c = record { kind = downlinkOf (c .0); image = c .1 }
+pub downlink-kind-tells : {k m : DownlinkKind} → downlinkCommand k ≡ downlinkCommand m → k ≡ m
+downlink-kind-tells p = by-inverse downlinkCommand downlinkOf downlink-kind p
 
 pub downlink-tells : {c e : DownlinkMacCommandCreator} → toldDownlink c ≡ toldDownlink e → c ≡ e
-unfolding downlinkTold
-downlink-tells p = by-inverse toldDownlink downlinkTold (λ c. ap (λ (k : DownlinkKind). record { kind = k; image = c .image }) (downlink-kind (c .kind))) p
+downlink-tells p = ap₂ (λ k i. record { kind = k; image = i }) (downlink-kind-tells (ap (λ t. t .0) p)) (ap (λ t. t .1) p)
 
 imageTold : ℕ × List ℕ → Image
 imageTold i = record { len = i .0; bytes = i .1 }

@@ -35,7 +35,7 @@ ghost use Rattle.creators.specs.Kinds.{
   toldImage,
 };
 
-// An image as it is sent: the first len bytes, with zeros after them.
+// An image as it is sent: the first len bytes. Those after them do not count.
 pub struct Image {
     pub len: usize,
     pub bytes: [u8; 6],
@@ -61,6 +61,9 @@ fn padded(image: &[u8]) -> [u8; 6]
     ]
 }
 
+// What the table has of a command: its CID, and the bytes of its payload.
+struct Entry(u8, u8);
+
 // The commands that are sent up.
 pub enum UplinkKind {
     LinkCheckReq,
@@ -76,38 +79,20 @@ pub enum UplinkKind {
 }
 
 impl UplinkKind {
-    fn cid(self) -> u8
-        ensures { λ r. ⌜ r ≡ uplinkCommand self .cid ⌝ }
+    fn entry(self) -> Entry
+        ensures { λ r. ⌜ (r .0 ≡ uplinkCommand self .cid) × (r .1 ≡ uplinkCommand self .size) ⌝ }
     {
         match self {
-            UplinkKind::LinkCheckReq => 0x02,
-            UplinkKind::LinkADRAns => 0x03,
-            UplinkKind::DutyCycleAns => 0x04,
-            UplinkKind::RXParamSetupAns => 0x05,
-            UplinkKind::DevStatusAns => 0x06,
-            UplinkKind::NewChannelAns => 0x07,
-            UplinkKind::RXTimingSetupAns => 0x08,
-            UplinkKind::TXParamSetupAns => 0x09,
-            UplinkKind::DlChannelAns => 0x0A,
-            UplinkKind::DeviceTimeReq => 0x0D,
-        }
-    }
-
-    // The bytes of its payload.
-    fn size(self) -> u8
-        ensures { λ r. ⌜ r ≡ uplinkCommand self .size ⌝ }
-    {
-        match self {
-            UplinkKind::LinkCheckReq => 0,
-            UplinkKind::LinkADRAns => 1,
-            UplinkKind::DutyCycleAns => 0,
-            UplinkKind::RXParamSetupAns => 1,
-            UplinkKind::DevStatusAns => 2,
-            UplinkKind::NewChannelAns => 1,
-            UplinkKind::RXTimingSetupAns => 0,
-            UplinkKind::TXParamSetupAns => 0,
-            UplinkKind::DlChannelAns => 1,
-            UplinkKind::DeviceTimeReq => 0,
+            UplinkKind::LinkCheckReq => Entry(0x02, 0),
+            UplinkKind::LinkADRAns => Entry(0x03, 1),
+            UplinkKind::DutyCycleAns => Entry(0x04, 0),
+            UplinkKind::RXParamSetupAns => Entry(0x05, 1),
+            UplinkKind::DevStatusAns => Entry(0x06, 2),
+            UplinkKind::NewChannelAns => Entry(0x07, 1),
+            UplinkKind::RXTimingSetupAns => Entry(0x08, 0),
+            UplinkKind::TXParamSetupAns => Entry(0x09, 0),
+            UplinkKind::DlChannelAns => Entry(0x0A, 1),
+            UplinkKind::DeviceTimeReq => Entry(0x0D, 0),
         }
     }
 }
@@ -207,7 +192,8 @@ impl UplinkMacCommandCreator {
         ensures { λ r. ⌜ r ≡ uplinkCommand (self .kind) .cid ⌝ }
     {
         let kind = self.kind;
-        kind.cid()
+        let entry = kind.entry();
+        entry.0
     }
 
     // The image's length.
@@ -215,7 +201,8 @@ impl UplinkMacCommandCreator {
         ensures { λ r. ⌜ r ≡ 1 + uplinkCommand (self .kind) .size ⌝ }
     {
         let kind = self.kind;
-        1 + (kind.size() as usize)
+        let entry = kind.entry();
+        1 + (entry.1 as usize)
     }
 
     pub fn build(self) -> Image
@@ -242,38 +229,20 @@ pub enum DownlinkKind {
 }
 
 impl DownlinkKind {
-    fn cid(self) -> u8
-        ensures { λ r. ⌜ r ≡ downlinkCommand self .cid ⌝ }
+    fn entry(self) -> Entry
+        ensures { λ r. ⌜ (r .0 ≡ downlinkCommand self .cid) × (r .1 ≡ downlinkCommand self .size) ⌝ }
     {
         match self {
-            DownlinkKind::LinkCheckAns => 0x02,
-            DownlinkKind::LinkADRReq => 0x03,
-            DownlinkKind::DutyCycleReq => 0x04,
-            DownlinkKind::RXParamSetupReq => 0x05,
-            DownlinkKind::DevStatusReq => 0x06,
-            DownlinkKind::NewChannelReq => 0x07,
-            DownlinkKind::RXTimingSetupReq => 0x08,
-            DownlinkKind::TXParamSetupReq => 0x09,
-            DownlinkKind::DlChannelReq => 0x0A,
-            DownlinkKind::DeviceTimeAns => 0x0D,
-        }
-    }
-
-    // The bytes of its payload.
-    fn size(self) -> u8
-        ensures { λ r. ⌜ r ≡ downlinkCommand self .size ⌝ }
-    {
-        match self {
-            DownlinkKind::LinkCheckAns => 2,
-            DownlinkKind::LinkADRReq => 4,
-            DownlinkKind::DutyCycleReq => 1,
-            DownlinkKind::RXParamSetupReq => 4,
-            DownlinkKind::DevStatusReq => 0,
-            DownlinkKind::NewChannelReq => 5,
-            DownlinkKind::RXTimingSetupReq => 1,
-            DownlinkKind::TXParamSetupReq => 1,
-            DownlinkKind::DlChannelReq => 4,
-            DownlinkKind::DeviceTimeAns => 5,
+            DownlinkKind::LinkCheckAns => Entry(0x02, 2),
+            DownlinkKind::LinkADRReq => Entry(0x03, 4),
+            DownlinkKind::DutyCycleReq => Entry(0x04, 1),
+            DownlinkKind::RXParamSetupReq => Entry(0x05, 4),
+            DownlinkKind::DevStatusReq => Entry(0x06, 0),
+            DownlinkKind::NewChannelReq => Entry(0x07, 5),
+            DownlinkKind::RXTimingSetupReq => Entry(0x08, 1),
+            DownlinkKind::TXParamSetupReq => Entry(0x09, 1),
+            DownlinkKind::DlChannelReq => Entry(0x0A, 4),
+            DownlinkKind::DeviceTimeAns => Entry(0x0D, 5),
         }
     }
 }
@@ -373,7 +342,8 @@ impl DownlinkMacCommandCreator {
         ensures { λ r. ⌜ r ≡ downlinkCommand (self .kind) .cid ⌝ }
     {
         let kind = self.kind;
-        kind.cid()
+        let entry = kind.entry();
+        entry.0
     }
 
     // The image's length.
@@ -381,7 +351,8 @@ impl DownlinkMacCommandCreator {
         ensures { λ r. ⌜ r ≡ 1 + downlinkCommand (self .kind) .size ⌝ }
     {
         let kind = self.kind;
-        1 + (kind.size() as usize)
+        let entry = kind.entry();
+        1 + (entry.1 as usize)
     }
 
     pub fn build(self) -> Image
