@@ -94,7 +94,7 @@ module _ (L : Rule) (xs : List Item) where
         ap (λ (b : Built). fill b (encode (cmdsOf xs)) out) e
         ∙ ap (λ (b : Bool). cond b (total n, over out 0 (encode (cmdsOf xs))) (refused 4, out)) (lt-leb n (length out) h)
 
-    built : length xs ≤ 4096 → Commands L xs → length (encode (cmdsOf xs)) ≤ length out
+    pub built : length xs ≤ 4096 → Commands L xs → length (encode (cmdsOf xs)) ≤ length out
         → buildOf L xs out ≡ (total (length (encode (cmdsOf xs))), over out 0 (encode (cmdsOf xs)))
     built h c k = filled (length (encode (cmdsOf xs))) (total-of h c) k
 
@@ -115,7 +115,7 @@ module _ (L : Rule) (xs : List Item) where
     fill-total (refusedAt k place) bytes n e = let z : _≡_ {A = ℕ} 0 1 = cc in absurd (omega arith)
     fill-total (refused k) bytes n e = let z : _≡_ {A = ℕ} 0 1 = cc in absurd (omega arith)
 
-    over-front : over out 0 (encode (cmdsOf xs)) ≡ encode (cmdsOf xs) ++ drop (length (encode (cmdsOf xs))) out
+    pub over-front : over out 0 (encode (cmdsOf xs)) ≡ encode (cmdsOf xs) ++ drop (length (encode (cmdsOf xs))) out
     over-front = ap (λ (k : ℕ). encode (cmdsOf xs) ++ drop k out) (zero-add (length (encode (cmdsOf xs))))
 
   pub build-then-walk : BuildThenWalk L xs

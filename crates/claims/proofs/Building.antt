@@ -10,6 +10,7 @@ use native.Mathlib.Omega.{arith}
 use base.Logic.{id⊢}
 use lib.Dec.{leb}
 use lib.ListN.{length, take, drop}
+use lib.Seq.{take-append-seam}
 use borrow.Author.Tests.{le-leb, lt-leb}
 use denote.Ref.{RefT, now}
 use Rattle.bits.specs.Every.{Every}
@@ -27,12 +28,12 @@ use Rattle.lent.specs.Records.{itemsOf}
 use Rattle.claims.specs.Building.{
   Five,
   Builder,
-  Packed,
-  Structs,
-  Four,
-  LenPacked,
-  LenStructs,
-  measured,
+  FromSlots,
+  FromStructs,
+  FromFour,
+  LenOfSlots,
+  LenOfStructs,
+  asked-length,
   IsRefusal,
   StandsFor,
   RefusedKeeps,
@@ -43,22 +44,19 @@ use Rattle.claims.specs.Building.{
   same,
   no-room,
   LengthForBuild,
+  AsDefined,
+  BuildsAsDefined,
+  RightBuild,
   Builds,
 }
 use Rattle.claims.specs.Building as Building
-use Rattle.claims.specs.Handing.{Reads}
+use Rattle.claims.specs.Handing.{ReadAs}
+use Rattle.claims.proofs.ByHand.{built-set, build-set}
 use Rattle.claims.proofs.Handing.{reads}
 use Rattle.claims.proofs.Lists.{every-list-built}
 use Rattle.claims.proofs.Owning.{bare-place}
 
 -- ---- each build answers and leaves what the definition says
-
-pub record AsDefined (rules : Rules) (xs : List Item) (before : List ℕ) (a : Built) (after : List ℕ) : Type 0 where
-  pub says : _≡_ {A = Built × List ℕ} (a, after) (buildOf (lengthOf rules) xs before)
-  pub full : Full (lengthOf rules) xs
-
-abbrev pub Defined : Builder → Type 2
-Defined B = (rules : Rules) (xs : List Item) (before after : List ℕ) (a : Built) → B rules xs before a after → AsDefined rules xs before a after
 
 -- no payload of the table is longer than five bytes
 full-five : (rules : Rules) (records : List Record) → Every Five records → Full (lengthOf rules) (itemsOf records)
@@ -68,21 +66,21 @@ full-five rules (r ∷ rs) f = (
   full-five rules rs (f .1),
 )
 
-pub packed-defined : Defined Packed
-packed-defined rules _ _ _ _ (Building.built slots out r after g) = record {
+pub slots-defined : BuildsAsDefined FromSlots
+slots-defined rules _ _ _ _ (Building.built slots out r after g) = record {
   says = ap (λ (o : List ℕ). (_, o)) (sym (g .1 .1 .1)) ∙ g .1 .1 .0;
   full = slots-full rules (now slots);
 }
 
-pub structs-defined : Defined Structs
+pub structs-defined : BuildsAsDefined FromStructs
 structs-defined rules _ _ _ _ (Building.built records out r κs exit f q) = record {
-  says = q _ (λ M 𝓤 H A mem run g. id⊢ 𝓤 _);
+  says = q _ (build-set _ _) (λ M 𝓤 H A mem run g. id⊢ 𝓤 _);
   full = full-five rules (now records) f;
 }
 
-four-defined : Defined Four
+four-defined : BuildsAsDefined FromFour
 four-defined rules _ _ _ _ (Building.built records out r κs exit f q) = record {
-  says = q _ (λ M 𝓤 H A mem run g. id⊢ 𝓤 _);
+  says = q _ (build-set _ _) (λ M 𝓤 H A mem run g. id⊢ 𝓤 _);
   full = full-five rules records f;
 }
 
@@ -105,7 +103,7 @@ as-many L [] c = refl
 as-many L (whole r ∷ xs) c = ap suc (as-many L xs (c .2))
 as-many L (part ∷ xs) c = absurd c
 
-module _ (B : Builder) (d : Defined B) where
+module _ (B : Builder) (d : BuildsAsDefined B) where
   refused-keeps : RefusedKeeps B
   refused-keeps rules xs before after a b h =
       let e = d rules xs before after a b .says in
@@ -114,6 +112,7 @@ module _ (B : Builder) (d : Defined B) where
   -- after a build of a list that stands for commands and fits, the walk of the bytes written is those commands and the end
   record Written (rules : Rules) (cs : List Cmd) (before : List ℕ) (a : Built) (after : List ℕ) : Type 0 where
     pub size : a ≡ total (length (encode cs))
+    pub front : take (length (encode cs)) after ≡ encode cs
     pub later : drop (length (encode cs)) after ≡ drop (length (encode cs)) before
     pub walk : walkOf (lengthOf rules) (take (length (encode cs)) after) ≡ record { cmds = place 0 cs; ending = end (length (encode cs)) }
 
@@ -130,6 +129,9 @@ module _ (B : Builder) (d : Defined B) where
           let w = ThereAndBack.build-then-walk (lengthOf rules) xs before few (st .well-formed) fits in
           record {
             size = ap (λ x. x .0) e ∙ w .size;
+            front = ap (λ x. take (length (encode (cmdsOf xs))) (x .1)) (e ∙ ThereAndBack.built (lengthOf rules) xs before few (st .well-formed) fits)
+                ∙ ap (take (length (encode (cmdsOf xs)))) (ThereAndBack.over-front (lengthOf rules) xs before)
+                ∙ take-append-seam (encode (cmdsOf xs)) (drop (length (encode (cmdsOf xs))) before);
             later = ap (λ x. drop (length (encode (cmdsOf xs))) (x .1)) e ∙ w .later;
             walk = ap (λ x. walkOf (lengthOf rules) (take (length (encode (cmdsOf xs))) (x .1))) e ∙ w .walk;
           }
@@ -139,9 +141,10 @@ module _ (B : Builder) (d : Defined B) where
       let w = written rules cs xs before after a few st fits b in
       record {
         size = w .size;
+        written = w .front;
         later = w .later;
         reads = λ stream e.
-            subst (λ (x : Walk). Reads rules stream (x .cmds) (x .ending)) (ap (walkOf (lengthOf rules)) e ∙ w .walk) (reads rules stream);
+            subst (λ (x : Walk). ReadAs rules stream (x .cmds) (x .ending)) (ap (walkOf (lengthOf rules)) e ∙ w .walk) (reads rules stream);
       }
 
   accepts-exactly : AcceptsExactly B
@@ -164,7 +167,7 @@ module _ (B : Builder) (d : Defined B) where
       let n-is : n ≡ length (encode cs) = let q = w .size in cc in
       ap (λ (k : ℕ). walkOf (lengthOf rules) (take k after) .cmds) n-is ∙ ap (λ (x : Walk). x .cmds) (w .walk)
 
-same-bytes : (B C : Builder) → Defined B → Defined C → SameBytesSameList B C
+same-bytes : (B C : Builder) → BuildsAsDefined B → BuildsAsDefined C → SameBytesSameList B C
 same-bytes B C d d' rules cs ds xs ys before before' after after' m n st st' b c e =
     let one = accepted-wrote B d rules cs xs before after m st b in
     let two = accepted-wrote C d' rules ds ys before' after' n st' c in
@@ -184,39 +187,37 @@ agrees (refusedAt k place) bytes before = same refl
 agrees (refused k) bytes before = same refl
 
 length-for-build : (Len : Rules → List Item → Built → Type 2) → ((rules : Rules) (xs : List Item) (l : Built) → Len rules xs l → l ≡ totalOf (lengthOf rules) xs)
-    → (B : Builder) → Defined B → LengthForBuild Len B
+    → (B : Builder) → BuildsAsDefined B → LengthForBuild Len B
 length-for-build Len len B d rules xs before after l a x b =
     let e : a ≡ fill l (encode (cmdsOf xs)) before .0 =
     ap (λ x. x .0) (d rules xs before after a b .says) ∙ ap (λ (t : Built). fill t (encode (cmdsOf xs)) before .0) (sym (len rules xs l x)) in
     subst (LengthAgrees l (length before)) (sym e) (agrees l (encode (cmdsOf xs)) before)
 
-len-packed : (rules : Rules) (xs : List Item) (l : Built) → LenPacked rules xs l → l ≡ totalOf (lengthOf rules) xs
-len-packed rules _ _ (measured slots r g) = g .1 .1
+len-slots : (rules : Rules) (xs : List Item) (l : Built) → LenOfSlots rules xs l → l ≡ totalOf (lengthOf rules) xs
+len-slots rules _ _ (asked-length slots r g) = g .1 .1
 
-len-structs : (rules : Rules) (xs : List Item) (l : Built) → LenStructs rules xs l → l ≡ totalOf (lengthOf rules) xs
-len-structs rules _ _ (measured records r κs exit q) = q _ (λ M 𝓤 H A mem run g. id⊢ 𝓤 _)
+len-structs : (rules : Rules) (xs : List Item) (l : Built) → LenOfStructs rules xs l → l ≡ totalOf (lengthOf rules) xs
+len-structs rules _ _ (asked-length records r κs exit q) = q _ (built-set _ _) (λ M 𝓤 H A mem run g. id⊢ 𝓤 _)
 
-pub keeps-packed : RefusedKeeps Packed
-keeps-packed = refused-keeps Packed packed-defined
+pub keeps-slots : RefusedKeeps FromSlots
+keeps-slots = refused-keeps FromSlots slots-defined
 
-pub keeps-structs : RefusedKeeps Structs
-keeps-structs = refused-keeps Structs structs-defined
+pub keeps-structs : RefusedKeeps FromStructs
+keeps-structs = refused-keeps FromStructs structs-defined
 
-pub keeps-four : RefusedKeeps Four
-keeps-four = refused-keeps Four four-defined
+pub keeps-four : RefusedKeeps FromFour
+keeps-four = refused-keeps FromFour four-defined
+
+right : (B : Builder) → BuildsAsDefined B → RightBuild B
+right B d = record { reads-back = built-reads-back B d; accepts = accepts-exactly B d; same-list = same-bytes B B d d; defined = d }
 
 pub builds : Builds
 builds = record {
   lists = every-list-built;
-  packed = built-reads-back Packed packed-defined;
-  structs = built-reads-back Structs structs-defined;
-  four = built-reads-back Four four-defined;
-  accepts-packed = accepts-exactly Packed packed-defined;
-  accepts-structs = accepts-exactly Structs structs-defined;
-  accepts-four = accepts-exactly Four four-defined;
-  same-packed = same-bytes Packed Packed packed-defined packed-defined;
-  same-structs = same-bytes Structs Structs structs-defined structs-defined;
-  same-either = same-bytes Packed Structs packed-defined structs-defined;
-  length-packed = length-for-build LenPacked len-packed Packed packed-defined;
-  length-structs = length-for-build LenStructs len-structs Structs structs-defined;
+  slots = right FromSlots slots-defined;
+  structs = right FromStructs structs-defined;
+  four = right FromFour four-defined;
+  either = same-bytes FromSlots FromStructs slots-defined structs-defined;
+  slots-length = length-for-build LenOfSlots len-slots FromSlots slots-defined;
+  structs-length = length-for-build LenOfStructs len-structs FromStructs structs-defined;
 }

@@ -18,16 +18,16 @@ use Rattle.walk.specs.Told.{toldPort}
 use Rattle.walk.specs.declared.chooser.Port.{Port}
 use Rattle.walk.proofs.chooser.choose.Reads as choose
 use Rattle.walk.proofs.chooser.choose_verdict.Reads as choose-verdict
-use Rattle.claims.specs.Choosing.{WithoutPort, InPayload, Judged, Chosen, Chooser}
+use Rattle.claims.specs.Choosing.{WithoutPort, InPayload, RightVerdict, Chosen, Chooser}
 use Rattle.claims.specs.Outcomes.{Gives}
 
 module _ (fopts payload : RefT (List ℕ)) (port : Port) where
   -- ---- the tests of the definition, by what they say
 
-  without : WithoutPort fopts payload port → withoutPort (toldPort port) (now payload) ≡ true
+  without : WithoutPort payload port → withoutPort (toldPort port) (now payload) ≡ true
   without w = ap (λ (p : Option ℕ). isNone p && nonEmpty (now payload)) (w .no-port) ∙ lt-ltb 0 (length (now payload)) (w .some-payload)
 
-  with-port : (WithoutPort fopts payload port → ⊥) → withoutPort (toldPort port) (now payload) ≡ false
+  with-port : (WithoutPort payload port → ⊥) → withoutPort (toldPort port) (now payload) ≡ false
   with-port h = by (toldPort port) refl (ltb 0 (length (now payload))) refl
     where
       by : (p : Option ℕ) → toldPort port ≡ p → (b : Bool) → ltb 0 (length (now payload)) ≡ b → isNone p && b ≡ false
@@ -35,10 +35,10 @@ module _ (fopts payload : RefT (List ℕ)) (port : Port) where
       by none e false q = refl
       by (some n) e b q = refl
 
-  there : InPayload fopts payload port → inPayload (toldPort port) (now payload) ≡ true
+  there : InPayload payload port → inPayload (toldPort port) (now payload) ≡ true
   there w = ap (λ (p : Option ℕ). isZero p && nonEmpty (now payload)) (w .port-zero) ∙ lt-ltb 0 (length (now payload)) (w .some-payload)
 
-  elsewhere : (InPayload fopts payload port → ⊥) → inPayload (toldPort port) (now payload) ≡ false
+  elsewhere : (InPayload payload port → ⊥) → inPayload (toldPort port) (now payload) ≡ false
   elsewhere h = by (toldPort port) refl (ltb 0 (length (now payload))) refl
     where
       zero : (n : ℕ) → toldPort port ≡ some n → (z : Bool) → eqb n 0 ≡ z → (b : Bool) → ltb 0 (length (now payload)) ≡ b → z && b ≡ false
@@ -51,7 +51,7 @@ module _ (fopts payload : RefT (List ℕ)) (port : Port) where
       by (some n) e b q = zero n e (eqb n 0) refl b q
 
   -- port 0 is a port
-  has-port : InPayload fopts payload port → WithoutPort fopts payload port → ⊥
+  has-port : InPayload payload port → WithoutPort payload port → ⊥
   has-port i w = let e : _≡_ {A = Option ℕ} none (some 0) = sym (w .no-port) ∙ i .port-zero in let z : _≡_ {A = ℕ} 0 1 = cc in omega arith
 
   -- the verdict, by the three tests
@@ -69,10 +69,10 @@ module _ (fopts payload : RefT (List ℕ)) (port : Port) where
   both i n e f = ap (λ (x : Bool). x && nonEmpty (now fopts)) e ∙ ap (λ (x : Bool). i && x) f
 
   -- not both: elsewhere, or FOpts is empty
-  not-both : (InPayload fopts payload port → length (now fopts) ≡ 0) → inBoth (toldPort port) (now fopts) (now payload) ≡ false
+  not-both : (InPayload payload port → length (now fopts) ≡ 0) → inBoth (toldPort port) (now fopts) (now payload) ≡ false
   not-both h = by (inPayload (toldPort port) (now payload)) refl (nonEmpty (now fopts)) refl
     where
-      held : inPayload (toldPort port) (now payload) ≡ true → (InPayload fopts payload port → ⊥) → ⊥
+      held : inPayload (toldPort port) (now payload) ≡ true → (InPayload payload port → ⊥) → ⊥
       held e n = let q : true ≡ false = sym e ∙ elsewhere n in let z : _≡_ {A = ℕ} 0 1 = cc in omega arith
 
       by : (i : Bool) → inPayload (toldPort port) (now payload) ≡ i → (n : Bool) → nonEmpty (now fopts) ≡ n → inBoth (toldPort port) (now fopts) (now payload) ≡ false
@@ -80,7 +80,7 @@ module _ (fopts payload : RefT (List ℕ)) (port : Port) where
       by true e false f = both true false e f
       by false e n f = both false n e f
 
-  judged : (v : Verdict) → Gives choose-verdict.Post (fopts, (payload, (port, tt))) v → Judged fopts payload port v
+  judged : (v : Verdict) → Gives choose-verdict.Post (fopts, (payload, (port, tt))) v → RightVerdict fopts payload port v
   judged v g = record {
     without-port = λ w. g .1 .1 ∙ tests true (tooLong (now fopts)) (inBoth (toldPort port) (now fopts) (now payload)) (without w) refl refl;
     too-long = λ w l. g .1 .1 ∙ tests false true (inBoth (toldPort port) (now fopts) (now payload)) (with-port w) (lt-ltb 15 (length (now fopts)) l) refl;

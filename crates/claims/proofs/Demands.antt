@@ -1,10 +1,19 @@
 -- The demands hold. Assumes nothing.
 use Rattle.claims.specs.Demands.{Demands}
 use Rattle.claims.proofs.Building.{builds}
+use Rattle.claims.proofs.ByHand.{by-hand}
 use Rattle.claims.proofs.Choosing.{chooser}
 use Rattle.claims.proofs.Examples.{examples-hold}
 use Rattle.claims.proofs.Keeping.{refusals-keep}
-use Rattle.claims.proofs.Owning.{one-owner}
+use Rattle.claims.proofs.Owning.{one-owner, next-is-step}
 
 pub demands : Demands
-demands = record { one = refusals-keep; two = examples-hold; three = one-owner; back = builds; chooser = record { so = chooser } }
+demands = record {
+  refusals-keep = refusals-keep;
+  examples = examples-hold;
+  one-owner = one-owner;
+  next-is-step = next-is-step;
+  builds = builds;
+  by-hand = by-hand;
+  chooser = record { so = chooser };
+}

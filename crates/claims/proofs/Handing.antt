@@ -9,6 +9,8 @@ use lib.Seq.{length-take-le}
 use borrow.Author.Tests.{le-leb}
 use base.Logic.{id⊢}
 use denote.Ref.{RefT, now}
+use contract.Lifetimes.{Lfts}
+use denote.Signature.{namedLft}
 use Rattle.table.specs.Answers.{Answer, given, refused}
 use Rattle.table.specs.Table.{lengthOf}
 use Rattle.table.specs.declared.rules.Rules.{Rules}
@@ -24,6 +26,7 @@ use Rattle.walk.proofs.Ownership as Ownership
 use Rattle.walk.proofs.Steps.{ended-no-command}
 use Rattle.lent.specs.Iterator.{movedTo, fresh, nexted}
 use Rattle.lent.specs.declared.iterator.MacCommandIterator.{MacCommandIterator}
+use Rattle.lent.proofs.iterator.MacCommandIterator.next as next
 use Rattle.claims.specs.Handing.{
   Front,
   withPayload,
@@ -38,19 +41,21 @@ use Rattle.claims.specs.Handing.{
   parsed-down,
   NextAsked,
   NoCommand,
-  Run,
+  Calls,
   begun,
   handed,
   none-handed,
   Between,
   HandsOut,
-  Reads,
+  ReadAs,
   steps,
   uplinkSteps,
   downlinkSteps,
   iterator,
 }
 use Rattle.claims.specs.Handing as Handing
+use Rattle.claims.specs.Outcomes.{Admits}
+use Rattle.claims.proofs.ByHand.{iterator-set, next-set}
 
 -- ---- lists of commands
 
@@ -144,7 +149,7 @@ module _ (L : Rule) (s : List ℕ) (F : Front) (f : Faithful L s F) where
   }
   rests a at before (p ∷ ps) e h k sound o n q = absurd (subst NoCommand q n)
 
-  pub position : {st : F .State} {out : List Cmd} → Run F st out → Position st out
+  pub position : {st : F .State} {out : List Cmd} → Calls F st out → Position st out
   position (begun st b) =
       let x = f .begins st b in
       record {
@@ -228,6 +233,12 @@ uplink-faithful stream = by-offsets (lengthOf sentUp) (now stream) (UplinkAsked 
 pub downlink-faithful : (stream : RefT (List ℕ)) → Faithful (lengthOf sentDown) (now stream) (downlinkSteps stream)
 downlink-faithful stream = by-offsets (lengthOf sentDown) (now stream) (DownlinkAsked stream) (downlink-asked stream)
 
+-- what the contract of `next` says
+pub next-says : (it : RefT MacCommandIterator) (r : Step) (κs : Lfts 2) (exit : RefT MacCommandIterator × Unit)
+    → Admits next.ended (λ M 𝓤. next.clauses 𝓤) κs (it, tt) r exit
+    → _≡_ {A = Answer (Found Heading) × MacCommandIterator} (toldStep r, now (exit .0)) (nexted (now it))
+next-says it r κs exit q = q _ (next-set (namedLft 2 1 tt κs) (toldStep r, now (exit .0)) (nexted (now it))) (λ M 𝓤 H A mem run g. id⊢ 𝓤 _)
+
 -- an iterator moves as one does who reads by offsets
 moved : (a : Answer (Found Cmd)) (at : ℕ) → movedTo (inNumbers a) at ≡ onward a at
 moved (given (command c next)) at = refl
@@ -251,15 +262,15 @@ module _ (rules : Rules) (stream : RefT (List ℕ)) where
       ∙ ap (λ (s : RefT (List ℕ)). foundAt (lengthOf rules) (now s) (it .index)) (k .same-stream)
 
 made-faithful : (stream : RefT (List ℕ)) (rules : Rules) (it : MacCommandIterator) → Made stream rules it → Keeps rules stream it × (it .index ≡ 0)
-made-faithful stream rules it (by-new κs exit p) = fresh-faithful rules stream it (p (it ≡ fresh stream rules) (λ M 𝓤 H A mem run g. id⊢ 𝓤 _))
-made-faithful stream _ it (parsed-up κs exit p) = fresh-faithful sentUp stream it (p (it ≡ fresh stream sentUp) (λ M 𝓤 H A mem run g. id⊢ 𝓤 _))
-made-faithful stream _ it (parsed-down κs exit p) = fresh-faithful sentDown stream it (p (it ≡ fresh stream sentDown) (λ M 𝓤 H A mem run g. id⊢ 𝓤 _))
+made-faithful stream rules it (by-new κs exit p) = fresh-faithful rules stream it (p (it ≡ fresh stream rules) (iterator-set (namedLft 1 0 tt κs) it (fresh stream rules)) (λ M 𝓤 H A mem run g. id⊢ 𝓤 _))
+made-faithful stream _ it (parsed-up κs exit p) = fresh-faithful sentUp stream it (p (it ≡ fresh stream sentUp) (iterator-set (namedLft 1 0 tt κs) it (fresh stream sentUp)) (λ M 𝓤 H A mem run g. id⊢ 𝓤 _))
+made-faithful stream _ it (parsed-down κs exit p) = fresh-faithful sentDown stream it (p (it ≡ fresh stream sentDown) (iterator-set (namedLft 1 0 tt κs) it (fresh stream sentDown)) (λ M 𝓤 H A mem run g. id⊢ 𝓤 _))
 
 module _ (rules : Rules) (stream : RefT (List ℕ)) where
   next-faithful : (it it' : MacCommandIterator) (a : Answer (Found Cmd)) → Keeps rules stream it → NextAsked it a it'
       → (a ≡ foundAt (lengthOf rules) (now stream) (it .index)) × (it' .index ≡ onward a (it .index)) × Keeps rules stream it'
   next-faithful _ _ _ k (Handing.asked it r p κs exit q g) =
-      let e : _≡_ {A = Answer (Found Heading) × MacCommandIterator} (toldStep r, now (exit .0)) (nexted (now it)) = q _ (λ M 𝓤 H A mem run g. id⊢ 𝓤 _) in
+      let e : _≡_ {A = Answer (Found Heading) × MacCommandIterator} (toldStep r, now (exit .0)) (nexted (now it)) = next-says it r κs exit q in
       let L = lengthOf (now it .rules) in
       let whole : withPayload (toldStep r) (now p) ≡ foundAt L (now (now it .«data»)) (now it .index) =
       told-whole L (now it .«data») (now it .index) (toldStep r) p (ap (λ x. x .0) e) (g .1 .1) in
@@ -277,7 +288,7 @@ module _ (rules : Rules) (stream : RefT (List ℕ)) where
   }
 
   -- all entries hand out the defined walk
-  pub reads : Reads rules stream (walkOf (lengthOf rules) (now stream) .cmds) (walkOf (lengthOf rules) (now stream) .ending)
+  pub reads : ReadAs rules stream (walkOf (lengthOf rules) (now stream) .cmds) (walkOf (lengthOf rules) (now stream) .ending)
   reads = record {
     by-steps = hands-out (lengthOf rules) (now stream) (steps rules stream) (steps-faithful rules stream);
     by-iterator = hands-out (lengthOf rules) (now stream) (iterator rules stream) iterator-faithful;

@@ -1,20 +1,36 @@
 -- A refusal leaves things as they were: crates/claims/specs/Keeping.antt. Assumes nothing.
-use Prim.Native.Nat.{ℕ, _*_, _^_, _/_, _%_}
+use Prim.Native.Nat.{ℕ, _+_, _*_, _/_, _%_, _<_, _≤_}
 use mathlib.Core.Bool.{Bool, true, false, cond}
-use mathlib.Core.List.{List}
+use mathlib.Core.List.{List, _∷_}
 use mathlib.Core.Path.{_≡_, refl, sym, ap, _∙_}
+use native.Mathlib.Decide.{decLe}
 use native.Mathlib.Omega.{arith}
 use lib.Dec.{ltb, leb}
 use lib.ListN.{length, set}
-use Rattle.table.specs.Answers.{Consent, refused, accepted}
+use borrow.Author.Tests.{lt-ltb, le-ltb, le-leb, lt-leb}
+use denote.Ref.{RefT, now}
+use Rattle.table.specs.Answers.{Answer, Consent, given, refused, accepted}
 use Rattle.table.specs.Told.{toldVerdict}
 use Rattle.table.specs.declared.refusal.Verdict.{Verdict}
 use Rattle.fields.specs.Mask.{switched}
-use Rattle.fields.specs.Places.{Place, LinkADRReq·dataRate, LinkADRReq·txPower, RXTimingSetupReq·delay, TXParamSetupReq·maxEirp, DevStatusAns·whole, DeviceTimeAns·fraction}
+use Rattle.fields.specs.Places.{LinkADRReq·dataRate, LinkADRReq·txPower, RXTimingSetupReq·delay, TXParamSetupReq·maxEirp, DevStatusAns·whole, DeviceTimeAns·fraction}
 use Rattle.creators.specs.Image.{putAt, onlyIf, checkedAt}
 use Rattle.creators.specs.Setters.{isMargin, sixBits, marginAt, nanoSecondsAt}
-use Rattle.claims.specs.Keeping.{RefusalsKeep}
-use Rattle.claims.proofs.Building.{keeps-packed, keeps-structs, keeps-four}
+use Rattle.walk.specs.Step.{Found, ended, command, stopped, Heading}
+use Rattle.walk.specs.Told.{toldStep}
+use Rattle.walk.specs.Walk.{Cmd}
+use Rattle.build.specs.Records.{heldBy, bytesOf, over, lenByte, packedAt, writtenAt}
+use Rattle.build.specs.declared.record.Record.{Record}
+use Rattle.build.proofs.record.Record.write.Reads as write
+use Rattle.build.proofs.record.Record.pack.Reads as pack
+use Rattle.lent.specs.Iterator.{movedTo, atIndex}
+use Rattle.lent.specs.declared.iterator.MacCommandIterator.{MacCommandIterator}
+use Rattle.claims.specs.Handing.{NextAsked, withPayload}
+use Rattle.claims.specs.Handing as Handing
+use Rattle.claims.specs.Keeping.{Checked, RefusalsKeep}
+use Rattle.claims.specs.Outcomes.{GivesWith}
+use Rattle.claims.proofs.Building.{keeps-slots, keeps-structs, keeps-four}
+use Rattle.claims.proofs.Handing.{next-says}
 
 -- an answer that is a verdict and a state, where a test accepts with one state, and refuses with the state as it was
 kept : (ok : Bool) (v : Verdict) (after x y : List ℕ) (n m : ℕ) → _≡_ {A = Consent × List ℕ} (toldVerdict v, after) (onlyIf ok n x y)
@@ -25,26 +41,92 @@ kept true v after x y n m e r =
     absurd (omega arith)
 kept false v after x y n m e r = ap (λ p. p .1) e
 
+-- a state that holds a list, and a test that fails exactly where the argument is bad
+checked : {A : Type 0} (hold : List ℕ → A) (bad : Type 0) (ok : Bool) (v : Verdict) (after x y : List ℕ) (n : ℕ)
+    → _≡_ {A = Consent × List ℕ} (toldVerdict v, after) (onlyIf ok n x y) → (bad → ok ≡ false) → ((bad → ⊥) → ok ≡ true)
+    → Checked bad n v (hold x) (hold after)
+checked hold bad ok v after x y n e f t = record {
+  refuses = λ b. ap (λ p. p .0) e ∙ ap (λ (o : Bool). onlyIf o n x y .0) (f b);
+  accepts = λ b. ap (λ p. p .0) e ∙ ap (λ (o : Bool). onlyIf o n x y .0) (t b);
+  keeps = λ m r. ap hold (kept ok v after x y n m e r);
+}
+
+-- a number below a bound, the bound's own failure, and its absence
+not-below : (v k : ℕ) → (k ≤ v → ⊥) → ltb v k ≡ true
+not-below v k h = lt-ltb v k (by (decLe k v))
+  where
+    by : Dec (k ≤ v) → v < k
+    by (yes l) = absurd (h l)
+    by (no l) = omega arith
+
+below : {A : Type 0} (hold : List ℕ → A) (i k : ℕ) (v : Verdict) (after x y : List ℕ) (n : ℕ)
+    → _≡_ {A = Consent × List ℕ} (toldVerdict v, after) (onlyIf (ltb i k) n x y) → Checked (k ≤ i) n v (hold x) (hold after)
+below hold i k v after x y n e = checked hold (k ≤ i) (ltb i k) v after x y n e (le-ltb i k) (not-below i k)
+
+-- a nibble takes 0 to 15
+nibble : {A : Type 0} (hold : List ℕ → A) (i : ℕ) (v : Verdict) (after x y : List ℕ) (n : ℕ)
+    → _≡_ {A = Consent × List ℕ} (toldVerdict v, after) (onlyIf (ltb i 16) n x y) → Checked (15 < i) n v (hold x) (hold after)
+nibble hold i v after x y n e = checked hold (15 < i) (ltb i 16) v after x y n e (λ b. le-ltb i 16 (omega arith)) (λ b. not-below i 16 (λ l. b (omega arith)))
+
+not-true : (b : Bool) → (b ≡ false → ⊥) → b ≡ true
+not-true true h = refl
+not-true false h = absurd (h refl)
+
+at-most : (i k : ℕ) → (k < i → ⊥) → leb i k ≡ true
+at-most i k h = le-leb i k (by (decLe i k))
+  where
+    by : Dec (i ≤ k) → i ≤ k
+    by (yes l) = l
+    by (no l) = absurd (h (omega arith))
+
+-- ---- an iterator that is refused; a record that has no room
+
+next-kept : (it : MacCommandIterator) (a : Answer (Found Cmd)) (it' : MacCommandIterator) (n : ℕ) → NextAsked it a it' → a ≡ refused n → it' ≡ it
+next-kept _ _ _ n (Handing.asked it r p κs exit q g) e =
+    let t = next-says it r κs exit q in
+    let r-is : toldStep r ≡ refused n = told (toldStep r) (now p) n e in
+    ap (λ x. x .1) t ∙ ap (λ (x : Answer (Found Heading)). atIndex (now it) (movedTo x (now it .index))) (sym (ap (λ x. x .0) t) ∙ r-is)
+  where
+    told : (x : Answer (Found Heading)) (b : List ℕ) (n : ℕ) → withPayload x b ≡ refused n → x ≡ refused n
+    told (given ended) b n e = let z : _≡_ {A = ℕ} 0 1 = cc in absurd (omega arith)
+    told (given (command h next)) b n e = let z : _≡_ {A = ℕ} 0 1 = cc in absurd (omega arith)
+    told (given (stopped k o)) b n e = let z : _≡_ {A = ℕ} 0 1 = cc in absurd (omega arith)
+    told (refused k) b n e = cc
+
+write-kept : (r : Record) (out : RefT (List ℕ)) (at : ℕ) (after : List ℕ) → GivesWith (λ s. now (s .1 .0)) write.Post (r, (out, (at, tt))) at after → after ≡ now out
+unfolding writtenAt
+write-kept r out at after g = by (leb (at + length (bytesOf (heldBy r))) (length (now out))) (ap (λ (o : List ℕ). (at, o)) (sym (g .1 .1 .1)) ∙ g .1 .1 .0)
+  where
+    by : (b : Bool) → _≡_ {A = ℕ × List ℕ} (at, after) (cond b (at + length (bytesOf (heldBy r)), over (now out) at (bytesOf (heldBy r))) (at, now out)) → after ≡ now out
+    by true e = absurd (omega (arith, ap (λ p. p .0) e))
+    by false e = ap (λ p. p .1) e
+
+pack-kept : (r : Record) (slots : RefT (List ℕ)) (i : ℕ) (after : List ℕ) → length (now slots) / 8 ≤ i → GivesWith (λ s. now (s .1 .0)) pack.Post (r, (slots, (i, tt))) tt after
+    → after ≡ now slots
+unfolding packedAt
+pack-kept r slots i after h g =
+    sym (g .1 .1 .1) ∙ g .1 .1 .0
+    ∙ ap (λ (b : Bool). cond b (over (now slots) (8 * i) (r .cid ∷ lenByte (r .len) ∷ r .payload)) (now slots)) (le-ltb i (length (now slots) / 8) h)
+
 pub refusals-keep : RefusalsKeep
 unfolding checkedAt marginAt nanoSecondsAt
 refusals-keep = record {
-  packed = keeps-packed;
+  slots = keeps-slots;
   structs = keeps-structs;
   four = keeps-four;
-  bank-2 = λ m i v r g n e. ap (λ (b : List ℕ). record { 0 = b }) (kept (ltb i (length (m .0))) (r .verdict) (r .mask .0) (m .0) (set (m .0) i v) 5 n (g .1 .1) e);
-  channel-2 = λ m c on r g n e. ap (λ (b : List ℕ). record { 0 = b }) (kept (ltb c (8 * length (m .0))) (r .verdict) (r .mask .0) (m .0) (switched (m .0) c on) 5 n (g .1 .1) e);
-  bank-9 = λ m i v r g n e. ap (λ (b : List ℕ). record { 0 = b }) (kept (ltb i (length (m .0))) (r .verdict) (r .mask .0) (m .0) (set (m .0) i v) 5 n (g .1 .1) e);
-  channel-9 = λ m c on r g n e. ap (λ (b : List ℕ). record { 0 = b }) (kept (ltb c (8 * length (m .0))) (r .verdict) (r .mask .0) (m .0) (switched (m .0) c on) 5 n (g .1 .1) e);
-  data-rate = λ c v r g n e. ap (λ (b : List ℕ). record { «data» = b })
-      (kept (ltb v (2 ^ LinkADRReq·dataRate .width)) (r .verdict) (r .creator .«data») (c .«data») (putAt LinkADRReq·dataRate (c .«data») v) 7 n (g .1 .1) e);
-  tx-power = λ c v r g n e. ap (λ (b : List ℕ). record { «data» = b })
-      (kept (ltb v (2 ^ LinkADRReq·txPower .width)) (r .verdict) (r .creator .«data») (c .«data») (putAt LinkADRReq·txPower (c .«data») v) 8 n (g .1 .1) e);
-  margin = λ c m r g n e. ap (λ (b : List ℕ). record { «data» = b })
-      (kept (isMargin m) (r .verdict) (r .creator .«data») (c .«data») (putAt DevStatusAns·whole (c .«data») (sixBits m)) 9 n (g .1 .1) e);
-  delay = λ c v r g n e. ap (λ (b : List ℕ). record { «data» = b })
-      (kept (ltb v (2 ^ RXTimingSetupReq·delay .width)) (r .verdict) (r .creator .«data») (c .«data») (putAt RXTimingSetupReq·delay (c .«data») v) 10 n (g .1 .1) e);
-  max-eirp = λ c v r g n e. ap (λ (b : List ℕ). record { «data» = b })
-      (kept (ltb v (2 ^ TXParamSetupReq·maxEirp .width)) (r .verdict) (r .creator .«data») (c .«data») (putAt TXParamSetupReq·maxEirp (c .«data») v) 11 n (g .1 .1) e);
-  nano-seconds = λ c k r g n e. ap (λ (b : List ℕ). record { «data» = b })
-      (kept (leb k 1_000_000_000) (r .verdict) (r .creator .«data») (c .«data») (putAt DeviceTimeAns·fraction (c .«data») (k / 3_906_250 % 256)) 12 n (g .1 .1) e);
+  next = next-kept;
+  write = write-kept;
+  pack = pack-kept;
+  bank-2 = λ m i v r g. below (λ b. record { 0 = b }) i (length (m .0)) (r .verdict) (r .mask .0) (m .0) (set (m .0) i v) 5 (g .1 .1);
+  channel-2 = λ m c on r g. below (λ b. record { 0 = b }) c (8 * length (m .0)) (r .verdict) (r .mask .0) (m .0) (switched (m .0) c on) 5 (g .1 .1);
+  bank-9 = λ m i v r g. below (λ b. record { 0 = b }) i (length (m .0)) (r .verdict) (r .mask .0) (m .0) (set (m .0) i v) 5 (g .1 .1);
+  channel-9 = λ m c on r g. below (λ b. record { 0 = b }) c (8 * length (m .0)) (r .verdict) (r .mask .0) (m .0) (switched (m .0) c on) 5 (g .1 .1);
+  data-rate = λ c v r g. nibble (λ b. record { «data» = b }) v (r .verdict) (r .creator .«data») (c .«data») (putAt LinkADRReq·dataRate (c .«data») v) 7 (g .1 .1);
+  tx-power = λ c v r g. nibble (λ b. record { «data» = b }) v (r .verdict) (r .creator .«data») (c .«data») (putAt LinkADRReq·txPower (c .«data») v) 8 (g .1 .1);
+  margin = λ c m r g. checked (λ b. record { «data» = b }) (isMargin m ≡ false) (isMargin m) (r .verdict) (r .creator .«data») (c .«data»)
+      (putAt DevStatusAns·whole (c .«data») (sixBits m)) 9 (g .1 .1) (λ e. e) (not-true (isMargin m));
+  delay = λ c v r g. nibble (λ b. record { «data» = b }) v (r .verdict) (r .creator .«data») (c .«data») (putAt RXTimingSetupReq·delay (c .«data») v) 10 (g .1 .1);
+  max-eirp = λ c v r g. nibble (λ b. record { «data» = b }) v (r .verdict) (r .creator .«data») (c .«data») (putAt TXParamSetupReq·maxEirp (c .«data») v) 11 (g .1 .1);
+  nano-seconds = λ c k r g. checked (λ b. record { «data» = b }) (1_000_000_000 < k) (leb k 1_000_000_000) (r .verdict) (r .creator .«data») (c .«data»)
+      (putAt DeviceTimeAns·fraction (c .«data») (k / 3_906_250 % 256)) 12 (g .1 .1) (lt-leb k 1_000_000_000) (at-most k 1_000_000_000);
 }

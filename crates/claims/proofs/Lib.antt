@@ -1,4 +1,5 @@
 pub mod Building
+pub mod ByHand
 pub mod Choosing
 pub mod Demands
 pub mod Examples

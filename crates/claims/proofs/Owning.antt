@@ -19,13 +19,14 @@ use Rattle.walk.specs.declared.step.Step.{Step}
 use Rattle.walk.specs.declared.whole.WalkEnd.{WalkEnd}
 use Rattle.walk.proofs.Ownership as Ownership
 use Rattle.walk.proofs.Steps.{found-command}
+use Rattle.walk.proofs.Told.{step-tells}
 use Rattle.walk.proofs.step.step_at.Reads as step-at
 use Rattle.walk.proofs.step.payload_at.Reads as payload-at
 use Rattle.walk.proofs.whole.walk.Reads as walk
-use Rattle.claims.specs.Handing.{Front, withPayload, onward, NoCommand, Run, none-handed, steps, uplinkSteps, downlinkSteps, iterator}
+use Rattle.claims.specs.Handing.{Front, withPayload, onward, NoCommand, Calls, none-handed, steps, uplinkSteps, downlinkSteps, iterator}
 use Rattle.claims.specs.Outcomes.{Gives}
-use Rattle.claims.specs.Owning.{OwnsBytes, StopsThere, Begins, all-out, coming, FrontsBegin, OneOwnerBy, WholeWalk, PayloadShown, OneOwner}
-use Rattle.claims.proofs.Handing.{bare-append, stands-behind, Faithful, Position, position, answered, reads, steps-faithful, uplink-faithful, downlink-faithful, iterator-faithful}
+use Rattle.claims.specs.Owning.{OwnsBytes, StopsThere, Begins, all-out, coming, FrontsBegin, OneOwnerBy, WholeWalk, ShownBehind, OneOwner, NextIsStep}
+use Rattle.claims.proofs.Handing.{bare-append, next-says, stands-behind, Faithful, Position, position, answered, reads, steps-faithful, uplink-faithful, downlink-faithful, iterator-faithful}
 
 -- ---- lists
 
@@ -153,7 +154,7 @@ module _ (rules : Rules) (stream : RefT (List ℕ)) where
       }
 
   payload-shown : (at : ℕ) (r : Step) (p : RefT (List ℕ)) → Gives step-at.Post (rules, (stream, (at, tt))) r → Gives payload-at.Post (rules, (stream, (at, tt))) p
-      → PayloadShown rules stream at r p
+      → ShownBehind rules stream at r p
   payload-shown at r p g q = record {
     behind = λ h next e. by (foundAt (lengthOf rules) (now stream) at) refl h next (sym (g .1 .1) ∙ e);
     none = λ n. none (stepAt (lengthOf rules) (now stream) at) (subst (λ (x : Answer (Found Heading)). NoCommand (withPayload x [])) (g .1 .1) n) (q .1 .1);
@@ -186,4 +187,10 @@ one-owner rules stream = record {
   whole = whole-walk rules stream;
   payload = payload-shown rules stream;
   defined = reads rules stream;
+  step-defined = λ at r g. g .1 .1;
+  up-defined = λ e at r g. g .1 .1 ∙ ap (λ (x : Rules). foundAt (lengthOf x) (now stream) at) (sym e);
+  down-defined = λ e at r g. g .1 .1 ∙ ap (λ (x : Rules). foundAt (lengthOf x) (now stream) at) (sym e);
 }
+
+pub next-is-step : NextIsStep
+next-is-step it q r κs exit a g = step-tells (ap (λ x. x .0) (next-says it q κs exit a) ∙ sym (g .1 .1))

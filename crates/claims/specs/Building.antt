@@ -11,8 +11,8 @@ use Rattle.table.specs.Table.{lengthOf}
 use Rattle.table.specs.declared.rules.Rules.{Rules}
 use Rattle.walk.specs.Walk.{Cmd, WellFormed, end, encode, place}
 use Rattle.build.specs.Records.{Item, cmdsOf, slotsOf}
-use Rattle.build.specs.Build.{Built, total, refusedAt, refused}
-use Rattle.build.specs.ThereAndBack.{Commands}
+use Rattle.build.specs.Build.{Built, total, refusedAt, refused, buildOf}
+use Rattle.build.specs.ThereAndBack.{Commands, Full}
 use Rattle.build.specs.Told.{toldBuild}
 use Rattle.build.specs.declared.record.Record.{Record}
 use Rattle.build.specs.declared.packed.BuildAnswer.{BuildAnswer}
@@ -22,7 +22,7 @@ use Rattle.build.proofs.packed.build_mac_commands.Reads as build-mac-commands
 use Rattle.lent.proofs.records.records_len as records-len
 use Rattle.lent.proofs.records.build_records as build-records
 use Rattle.lent.proofs.records.build_four as build-four
-use Rattle.claims.specs.Handing.{Reads}
+use Rattle.claims.specs.Handing.{ReadAs}
 use Rattle.claims.specs.Outcomes.{Gives, GivesWith, Admits}
 
 -- ---- the entries
@@ -36,30 +36,30 @@ abbrev pub Builder : Type 3
 Builder = Rules → List Item → List ℕ → Built → List ℕ → Type 2
 
 -- `build_mac_commands`, from packed slots
-pub data Packed (rules : Rules) : List Item → List ℕ → Built → List ℕ → Type 2 where
+pub data FromSlots (rules : Rules) : List Item → List ℕ → Built → List ℕ → Type 2 where
   built : (slots out : RefT (List ℕ)) (r : BuildAnswer) (after : List ℕ)
       → GivesWith (λ s. now (s .1 .1 .0)) build-mac-commands.Post (rules, (slots, (out, tt))) r after
-      → Packed rules (slotsOf (now slots)) (now out) (toldBuild r) after
+      → FromSlots rules (slotsOf (now slots)) (now out) (toldBuild r) after
 
 -- `build_records`, from a slice of record structs
-pub data Structs (rules : Rules) : List Item → List ℕ → Built → List ℕ → Type 2 where
+pub data FromStructs (rules : Rules) : List Item → List ℕ → Built → List ℕ → Type 2 where
   built : (records : RefT (List Record)) (out : RefT (List ℕ)) (r : BuildAnswer) (κs : Lfts 2) (exit : Rules × (RefT (List Record) × (RefT (List ℕ) × Unit)))
       → Every Five (now records) → Admits build-records.ended (λ M 𝓤. build-records.clauses 𝓤) κs (rules, (records, (out, tt))) r exit
-      → Structs rules (itemsOf (now records)) (now out) (toldBuild r) (now (exit .1 .1 .0))
+      → FromStructs rules (itemsOf (now records)) (now out) (toldBuild r) (now (exit .1 .1 .0))
 
 -- `build_four`, from an array of them
-pub data Four (rules : Rules) : List Item → List ℕ → Built → List ℕ → Type 2 where
+pub data FromFour (rules : Rules) : List Item → List ℕ → Built → List ℕ → Type 2 where
   built : (records : List Record) (out : RefT (List ℕ)) (r : BuildAnswer) (κs : Lfts 1) (exit : Rules × (List Record × (RefT (List ℕ) × Unit)))
       → Every Five records → Admits build-four.ended (λ M 𝓤. build-four.clauses 𝓤) κs (rules, (records, (out, tt))) r exit
-      → Four rules (itemsOf records) (now out) (toldBuild r) (now (exit .1 .1 .0))
+      → FromFour rules (itemsOf records) (now out) (toldBuild r) (now (exit .1 .1 .0))
 
 -- `mac_commands_len` and `records_len`: of a list, what may be answered
-pub data LenPacked (rules : Rules) : List Item → Built → Type 2 where
-  measured : (slots : RefT (List ℕ)) (r : BuildAnswer) → Gives mac-commands-len.Post (rules, (slots, tt)) r → LenPacked rules (slotsOf (now slots)) (toldBuild r)
+pub data LenOfSlots (rules : Rules) : List Item → Built → Type 2 where
+  asked-length : (slots : RefT (List ℕ)) (r : BuildAnswer) → Gives mac-commands-len.Post (rules, (slots, tt)) r → LenOfSlots rules (slotsOf (now slots)) (toldBuild r)
 
-pub data LenStructs (rules : Rules) : List Item → Built → Type 2 where
-  measured : (records : RefT (List Record)) (r : BuildAnswer) (κs : Lfts 1) (exit : Rules × (RefT (List Record) × Unit))
-      → Admits records-len.ended (λ M 𝓤. records-len.clauses 𝓤) κs (rules, (records, tt)) r exit → LenStructs rules (itemsOf (now records)) (toldBuild r)
+pub data LenOfStructs (rules : Rules) : List Item → Built → Type 2 where
+  asked-length : (records : RefT (List Record)) (r : BuildAnswer) (κs : Lfts 1) (exit : Rules × (RefT (List Record) × Unit))
+      → Admits records-len.ended (λ M 𝓤. records-len.clauses 𝓤) κs (rules, (records, tt)) r exit → LenOfStructs rules (itemsOf (now records)) (toldBuild r)
 
 -- ---- what is claimed of each
 
@@ -73,11 +73,19 @@ pub record StandsFor (rules : Rules) (cs : List Cmd) (xs : List Item) : Type 0 w
   pub well-formed : Commands (lengthOf rules) xs
   pub same : cmdsOf xs ≡ cs
 
--- the commands were written: the total is their bytes, later bytes stay, and who reads what was written is handed out the commands and the end
+-- the commands were written: the total is the number of their bytes, which stand in front, behind them memory is as it was, and who reads what was
+-- written is handed out the commands and the end
 pub record BackAgain (rules : Rules) (cs : List Cmd) (before : List ℕ) (a : Built) (after : List ℕ) : Type 2 where
   pub size : a ≡ total (length (encode cs))
+  pub written : take (length (encode cs)) after ≡ encode cs
   pub later : drop (length (encode cs)) after ≡ drop (length (encode cs)) before
-  pub reads : (stream : RefT (List ℕ)) → now stream ≡ take (length (encode cs)) after → Reads rules stream (place 0 cs) (end (length (encode cs)))
+  pub reads : (stream : RefT (List ℕ)) → now stream ≡ take (length (encode cs)) after → ReadAs rules stream (place 0 cs) (end (length (encode cs)))
+
+-- R1, R3, R4, R16, with their places and their order (F5), and the memory then: those of crates/build/specs/Build.antt. A record's payload has the bytes
+-- that its length says
+pub record AsDefined (rules : Rules) (xs : List Item) (before : List ℕ) (a : Built) (after : List ℕ) : Type 0 where
+  pub says : _≡_ {A = Built × List ℕ} (a, after) (buildOf (lengthOf rules) xs before)
+  pub full : Full (lengthOf rules) xs
 
 module _ (B : Builder) where
   -- D1: a refusal leaves memory as it was
@@ -88,6 +96,10 @@ module _ (B : Builder) where
   abbrev pub BuiltReadsBack : Type 2
   BuiltReadsBack = (rules : Rules) (cs : List Cmd) (xs : List Item) (before after : List ℕ) (a : Built) → length cs ≤ 4096 → StandsFor rules cs xs
       → length (encode cs) ≤ length before → B rules xs before a after → BackAgain rules cs before a after
+
+  -- the definition, which fixes each refusal too
+  abbrev pub BuildsAsDefined : Type 2
+  BuildsAsDefined = (rules : Rules) (xs : List Item) (before after : List ℕ) (a : Built) → B rules xs before a after → AsDefined rules xs before a after
 
   -- accepted is what stands for at most 4,096 well-formed commands that fit, and nothing else
   abbrev pub AcceptsExactly : Type 2
@@ -108,7 +120,7 @@ pub data LengthAgrees (length-says : Built) (room : ℕ) (build-says : Built) : 
 abbrev pub LengthForBuild : (Rules → List Item → Built → Type 2) → Builder → Type 2
 LengthForBuild Len B = (rules : Rules) (xs : List Item) (before after : List ℕ) (l a : Built) → Len rules xs l → B rules xs before a after → LengthAgrees l (length before) a
 
--- every list of at most 4,096 well-formed commands can be handed to each of the builds: it has packed slots and record structs that stand for it.
+-- every list of well-formed commands can be handed to each of the builds: it has packed slots and record structs that stand for it.
 -- Where its payloads are bytes, so are the slots and the records' payloads
 abbrev pub Byte : ℕ → Type 0
 Byte b = b < 256
@@ -125,16 +137,18 @@ pub record CanBeBuilt (rules : Rules) (cs : List Cmd) : Type 0 where
 abbrev pub EveryListBuilt : Type 0
 EveryListBuilt = (rules : Rules) (cs : List Cmd) → WellFormed (lengthOf rules) cs → CanBeBuilt rules cs
 
+-- all of that, of one build
+pub record RightBuild (B : Builder) : Type 2 where
+  pub reads-back : BuiltReadsBack B
+  pub accepts : AcceptsExactly B
+  pub same-list : SameBytesSameList B B
+  pub defined : BuildsAsDefined B
+
 pub record Builds : Type 2 where
   pub lists : EveryListBuilt
-  pub packed : BuiltReadsBack Packed
-  pub structs : BuiltReadsBack Structs
-  pub four : BuiltReadsBack Four
-  pub accepts-packed : AcceptsExactly Packed
-  pub accepts-structs : AcceptsExactly Structs
-  pub accepts-four : AcceptsExactly Four
-  pub same-packed : SameBytesSameList Packed Packed
-  pub same-structs : SameBytesSameList Structs Structs
-  pub same-either : SameBytesSameList Packed Structs
-  pub length-packed : LengthForBuild LenPacked Packed
-  pub length-structs : LengthForBuild LenStructs Structs
+  pub slots : RightBuild FromSlots
+  pub structs : RightBuild FromStructs
+  pub four : RightBuild FromFour
+  pub either : SameBytesSameList FromSlots FromStructs
+  pub slots-length : LengthForBuild LenOfSlots FromSlots
+  pub structs-length : LengthForBuild LenOfStructs FromStructs

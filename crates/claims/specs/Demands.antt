@@ -5,19 +5,23 @@ use mathlib.Core.List.{List}
 use denote.Ref.{RefT}
 use Rattle.table.specs.declared.rules.Rules.{Rules}
 use Rattle.claims.specs.Building.{Builds}
+use Rattle.claims.specs.ByHand.{ByHand}
 use Rattle.claims.specs.Choosing.{Chooser}
 use Rattle.claims.specs.Examples.{ExamplesHold, Lifted}
 use Rattle.claims.specs.Keeping.{RefusalsKeep}
-use Rattle.claims.specs.Owning.{OneOwner}
+use Rattle.claims.specs.Owning.{OneOwner, NextIsStep}
 
 pub record Demands : Type 2 where
   -- D1: a refusal leaves things as they were. (That every entry takes every input, and ends, is what a proved function with no `requires` is.)
-  pub one : RefusalsKeep
+  pub refusals-keep : RefusalsKeep
   -- D2: the examples hold. (That the answers equal the Rust's is shown by runs, docs/ORACLE.md.)
-  pub two : ExamplesHold
+  pub examples : ExamplesHold
   -- D3a to D3c: each byte of each stream has one owner
-  pub three : (rules : Rules) (stream : RefT (List ℕ)) → OneOwner rules stream
+  pub one-owner : (rules : Rules) (stream : RefT (List ℕ)) → OneOwner rules stream
+  pub next-is-step : NextIsStep
   -- D3d and D3e: what is built reads back as it was
-  pub back : Builds
+  pub builds : Builds
+  -- the claims that speak of contracts by hand speak of something
+  pub by-hand : ByHand
   -- C1 to C4: where in a frame the commands are
   pub chooser : Lifted Chooser

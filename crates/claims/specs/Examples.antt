@@ -1,6 +1,5 @@
 -- The examples of RULES, P1 to P15, as one list. Each holds of every outcome that the contracts of the functions that it names admit.
 use Prim.Native.Nat.{ℕ}
-use Prim.Native.String.{String}
 use mathlib.Core.Bool.{Bool, true, false}
 use mathlib.Core.List.{List, [], _∷_, _++_}
 use mathlib.Core.Path.{_≡_}
@@ -11,11 +10,10 @@ use Rattle.table.specs.Table.{named}
 use Rattle.table.specs.Told.{toldVerdict}
 use Rattle.table.specs.declared.rules.Direction.{Direction}
 use Rattle.table.specs.declared.rules.Direction.the-variants.{Down, Up}
-use Rattle.fields.specs.Told.{toldFrequency, toldRange, toldEnabled}
+use Rattle.fields.specs.Told.{toldRange, toldEnabled}
 use Rattle.fields.specs.declared.channel_mask.ChannelMask2Answer.{ChannelMask2Answer}
 use Rattle.fields.specs.declared.channel_mask.EnabledAnswer.{EnabledAnswer}
 use Rattle.fields.specs.declared.data_rate_range.DataRateRangeAnswer.{DataRateRangeAnswer}
-use Rattle.fields.specs.declared.frequency.Frequency.{Frequency}
 use Rattle.fields.specs.declared.frequency.FrequencyAnswer.{FrequencyAnswer}
 use Rattle.fields.specs.declared.frequency.FrequencyAnswer.the-variants as FrequencyAnswer
 use Rattle.creators.specs.declared.dev_status.DevStatusAnsCreator.{DevStatusAnsCreator}
@@ -26,7 +24,7 @@ use Rattle.creators.specs.declared.tx_param_setup.TXParamSetupReqCreator.{TXPar
 use Rattle.creators.specs.declared.tx_param_setup.TXParamSetupReqCreatorAnswer.{TXParamSetupReqCreatorAnswer}
 use Rattle.walk.specs.Walk.{Placed, placed, Ending, end, stop}
 use Rattle.build.specs.Records.{slotsOf}
-use Rattle.build.specs.Build.{Built, total, refusedAt}
+use Rattle.build.specs.Build.{Built, total}
 use Rattle.build.specs.Build as Build
 use Rattle.build.specs.declared.record.Record.{Record}
 use Rattle.lent.specs.Records.{itemsOf}
@@ -48,8 +46,8 @@ use Rattle.creators.proofs.device_time.DeviceTimeAnsCreator.set_nano_seconds.Re
 use Rattle.creators.proofs.tx_param_setup.TXParamSetupReqCreator.new.Reads as tx-param-new
 use Rattle.creators.proofs.tx_param_setup.TXParamSetupReqCreator.set_max_eirp.Reads as set-max-eirp
 use Rattle.creators.proofs.tx_param_setup.TXParamSetupReqCreator.set_downlink_dwell_time.Reads as set-dwell
-use Rattle.claims.specs.Building.{Packed, Structs}
-use Rattle.claims.specs.Handing.{Reads}
+use Rattle.claims.specs.Building.{FromSlots, FromStructs}
+use Rattle.claims.specs.Handing.{ReadAs}
 use Rattle.claims.specs.Outcomes.{Gives}
 
 -- the answers whose `ack` P9 asks
@@ -75,8 +73,8 @@ pub data Example : Type 0 where
   power-then-dwell : (index : ℕ) → (byte : ℕ) → (dBm : ℕ) → Example
   -- seconds set in a fresh DeviceTimeAns, their four bytes, and the seconds read
   seconds : ℕ → (a b c d : ℕ) → (read : ℕ) → Example
-  -- records sent up, memory, the answer, and memory then
-  builds : List Record → (before : List ℕ) → Built → (after : List ℕ) → Example
+  -- records sent up, packed and as structs, memory, the answer, and memory then
+  builds : (slots : List ℕ) → List Record → (before : List ℕ) → Built → (after : List ℕ) → Example
   -- a mask's bytes, a channel, and whether it is on
   channel : (mask : List ℕ) → ℕ → Answer Bool → Example
   -- a mask's bytes, a channel and what it is set to, the verdict, and the bytes then
@@ -85,10 +83,10 @@ pub data Example : Type 0 where
   range : ℕ → Answer ℕ → Example
 
 -- whatever `ack` may answer is this
-abbrev pub SaysYes : Answering → ℕ → Bool → Type 0
-SaysYes LinkADRAns b it = (r : Bool) → Gives link-adr-ack.Post (record { 0 = b }, tt) r → r ≡ it
-SaysYes NewChannelAns b it = (r : Bool) → Gives new-channel-ack.Post (record { 0 = b }, tt) r → r ≡ it
-SaysYes DlChannelAns b it = (r : Bool) → Gives dl-channel-ack.Post (record { 0 = b }, tt) r → r ≡ it
+abbrev pub Says : Answering → ℕ → Bool → Type 0
+Says LinkADRAns b it = (r : Bool) → Gives link-adr-ack.Post (record { 0 = b }, tt) r → r ≡ it
+Says NewChannelAns b it = (r : Bool) → Gives new-channel-ack.Post (record { 0 = b }, tt) r → r ≡ it
+Says DlChannelAns b it = (r : Bool) → Gives dl-channel-ack.Post (record { 0 = b }, tt) r → r ≡ it
 
 -- a frequency was read, and its value may only be this
 abbrev pub InHertz : ℕ → FrequencyAnswer → Type 0
@@ -107,26 +105,27 @@ pub record SecondsThere (s a b c d back : ℕ) : Type 0 where
   pub read : (r : ℕ) → Gives seconds-read.Post (record { 0 = a; 1 = b; 2 = c; 3 = d; 4 = 0 }, tt) r → r ≡ back
 
 -- by either build
-pub record BuildsTo (records : List Record) (before : List ℕ) (answer : Built) (after : List ℕ) : Type 2 where
-  pub packed : (a : Built) (o : List ℕ) → Packed (record { direction = Up }) (itemsOf records) before a o → (a ≡ answer) × (o ≡ after)
-  pub structs : (a : Built) (o : List ℕ) → Structs (record { direction = Up }) (itemsOf records) before a o → (a ≡ answer) × (o ≡ after)
+pub record BuildsTo (slots : List ℕ) (records : List Record) (before : List ℕ) (answer : Built) (after : List ℕ) : Type 2 where
+  pub same : slotsOf slots ≡ itemsOf records
+  pub packed : (a : Built) (o : List ℕ) → FromSlots (record { direction = Up }) (slotsOf slots) before a o → (a ≡ answer) × (o ≡ after)
+  pub structs : (a : Built) (o : List ℕ) → FromStructs (record { direction = Up }) (itemsOf records) before a o → (a ≡ answer) × (o ≡ after)
 
 -- a statement in the universe of those that speak of functions proved by hand
 pub record Lifted (P : Type 0) : Type 2 where
   pub so : P
 
 abbrev pub Holds : Example → Type 2
-Holds (reads d bytes cmds ending) = (stream : RefT (List ℕ)) → now stream ≡ bytes → Reads (record { direction = d }) stream cmds ending
+Holds (reads d bytes cmds ending) = (stream : RefT (List ℕ)) → now stream ≡ bytes → ReadAs (record { direction = d }) stream cmds ending
 Holds (frequency bytes hz) = Lifted ((s : RefT (List ℕ)) → now s ≡ bytes → (a : FrequencyAnswer) → Gives frequency-new.Post (s, tt) a → InHertz hz a)
 Holds (margin-reads b m) = Lifted ((battery : ℕ) (r : ℤ) → Gives margin.Post (record { 0 = battery; 1 = b }, tt) r → r ≡ m)
 Holds (no-margin m) =
     Lifted ((c : DevStatusAnsCreator) (r : DevStatusAnsCreatorAnswer) → Gives set-margin.Post (c, (m, tt)) r → (toldVerdict (r .verdict) ≡ refused 9) × (r .creator ≡ c))
-Holds (says a b it) = Lifted (SaysYes a b it)
+Holds (says a b it) = Lifted (Says a b it)
 Holds (nano-seconds before n v after) =
     Lifted ((r : DeviceTimeAnsCreatorAnswer) → Gives set-nano-seconds.Post (record { «data» = before }, (n, tt)) r → (toldVerdict (r .verdict) ≡ v) × (r .creator .«data» ≡ after))
 Holds (power-then-dwell index byte dBm) = Lifted (PowerThenDwell index byte dBm)
 Holds (seconds s a b c d back) = Lifted (SecondsThere s a b c d back)
-Holds (builds records before answer after) = BuildsTo records before answer after
+Holds (builds slots records before answer after) = BuildsTo slots records before answer after
 Holds (channel m c on) = Lifted ((r : EnabledAnswer) → Gives is-enabled.Post (record { 0 = m }, (c, tt)) r → toldEnabled r ≡ on)
 Holds (channel-set m c on v after) =
     Lifted ((r : ChannelMask2Answer) → Gives set-channel.Post (record { 0 = m }, (c, (on, tt))) r → (toldVerdict (r .verdict) ≡ v) × (r .mask .0 ≡ after))
@@ -147,12 +146,18 @@ two =
     record { cid = named "LinkCheckReq" .cid; len = 0; payload = 0 ∷ 0 ∷ 0 ∷ 0 ∷ 0 ∷ [] } ∷
     record { cid = named "LinkADRAns" .cid; len = 1; payload = 0x07 ∷ 0 ∷ 0 ∷ 0 ∷ 0 ∷ [] } ∷ []
 
+-- the same in slots, whose eighth bytes don't count
+abbrev pub twoSlots : List ℕ
+twoSlots =
+    named "LinkCheckReq" .cid ∷ 0 ∷ 0 ∷ 0 ∷ 0 ∷ 0 ∷ 0 ∷ 0xEE ∷
+    named "LinkADRAns" .cid ∷ 1 ∷ 0x07 ∷ 0 ∷ 0 ∷ 0 ∷ 0 ∷ 0xEE ∷ []
+
 -- a DeviceTimeAns that is filled in: seconds, and a fraction
 abbrev pub filled : ℕ → List ℕ
 filled fraction = named "DeviceTimeAns" .cid ∷ 0x01 ∷ 0x02 ∷ 0x03 ∷ 0x04 ∷ fraction ∷ []
 
-abbrev pub examples : List Example
-examples =
+abbrev pub p1to6 : List Example
+p1to6 =
     -- P1
     reads Up [] [] (end 0) ∷
     -- P2
@@ -165,7 +170,10 @@ examples =
     reads Down (0x03 ∷ 0x51 ∷ 0x07 ∷ []) [] (stop 2 0) ∷
     reads Down (0x03 ∷ 0x51 ∷ 0x07 ∷ 0x00 ∷ []) [] (stop 2 0) ∷
     -- P6
-    reads Up (0x02 ∷ 0x80 ∷ []) (linkCheckReq 0 ∷ []) (stop 1 1) ∷
+    reads Up (0x02 ∷ 0x80 ∷ []) (linkCheckReq 0 ∷ []) (stop 1 1) ∷ []
+
+abbrev pub p7to9 : List Example
+p7to9 =
     -- P7
     frequency (0x28 ∷ 0x76 ∷ 0x84 ∷ []) 868_100_000 ∷
     frequency (0xFF ∷ 0xFF ∷ 0xFF ∷ []) 1_677_721_500 ∷
@@ -179,7 +187,10 @@ examples =
     says LinkADRAns 0x07 true ∷
     says NewChannelAns 0x07 false ∷
     says DlChannelAns 0x07 true ∷
-    says LinkADRAns 0x0F false ∷
+    says LinkADRAns 0x0F false ∷ []
+
+abbrev pub p10to13 : List Example
+p10to13 =
     -- P10
     nano-seconds (filled 0xA5) 999_999_999 accepted (filled 0xFF) ∷
     nano-seconds (filled 0xA5) 1_000_000_000 accepted (filled 0x00) ∷
@@ -189,8 +200,11 @@ examples =
     -- P12
     seconds 16_909_060 0x04 0x03 0x02 0x01 67_305_985 ∷
     -- P13
-    builds two (0xA0 ∷ 0xA1 ∷ 0xA2 ∷ 0xA3 ∷ []) (total 3) (0x02 ∷ 0x03 ∷ 0x07 ∷ 0xA3 ∷ []) ∷
-    builds two (0xA0 ∷ 0xA1 ∷ []) (Build.refused 4) (0xA0 ∷ 0xA1 ∷ []) ∷
+    builds twoSlots two (0xA0 ∷ 0xA1 ∷ 0xA2 ∷ 0xA3 ∷ []) (total 3) (0x02 ∷ 0x03 ∷ 0x07 ∷ 0xA3 ∷ []) ∷
+    builds twoSlots two (0xA0 ∷ 0xA1 ∷ []) (Build.refused 4) (0xA0 ∷ 0xA1 ∷ []) ∷ []
+
+abbrev pub p14and15 : List Example
+p14and15 =
     -- P14
     channel (0x00 ∷ 0x80 ∷ []) 15 (given true) ∷
     channel (0xFF ∷ 0x7F ∷ []) 15 (given false) ∷
@@ -203,7 +217,10 @@ examples =
     range 0x55 (given 0x55) ∷
     range 0x05 (refused 6) ∷ []
 
--- the single claim
+abbrev pub examples : List Example
+examples = p1to6 ++ (p7to9 ++ (p10to13 ++ p14and15))
+
+-- the single claim: each of them holds
 abbrev pub All : List Example → Type 2
 All [] = Lifted Unit
 All (e ∷ es) = Holds e × All es

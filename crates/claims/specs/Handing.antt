@@ -101,10 +101,10 @@ NoCommand (refused n) = Unit
 
 module _ (F : Front) where
   -- asked again and again, the entry has handed out these commands, and stands so
-  pub data Run : F .State → List Cmd → Type 2 where
-    begun : (st : F .State) → F .begin st → Run st []
-    handed : (st st' : F .State) (cs : List Cmd) (c : Cmd) (next : ℕ) → Run st cs → F .ask st (given (command c next)) st' → Run st' (cs ++ (c ∷ []))
-    none-handed : (st st' : F .State) (cs : List Cmd) (a : Answer (Found Cmd)) → Run st cs → F .ask st a st' → NoCommand a → Run st' cs
+  pub data Calls : F .State → List Cmd → Type 2 where
+    begun : (st : F .State) → F .begin st → Calls st []
+    handed : (st st' : F .State) (cs : List Cmd) (c : Cmd) (next : ℕ) → Calls st cs → F .ask st (given (command c next)) st' → Calls st' (cs ++ (c ∷ []))
+    none-handed : (st st' : F .State) (cs : List Cmd) (a : Answer (Found Cmd)) → Calls st cs → F .ask st a st' → NoCommand a → Calls st' cs
 
   -- between the commands of a list that were handed out and those to come: it stands at the first of these, or at the ending, and whatever is
   -- answered is that
@@ -118,10 +118,10 @@ module _ (F : Front) where
 
   -- exactly these commands are handed out, each at its offset, and then this ending for ever
   abbrev pub HandsOut : List Placed → Ending → Type 2
-  HandsOut cmds ending = (st : F .State) (out : List Cmd) → Run st out → Between cmds ending st out
+  HandsOut cmds ending = (st : F .State) (out : List Cmd) → Calls st out → Between cmds ending st out
 
 -- the same of all entries, and the whole walk counts the commands and tells the ending
-pub record Reads (rules : Rules) (stream : RefT (List ℕ)) (cmds : List Placed) (ending : Ending) : Type 2 where
+pub record ReadAs (rules : Rules) (stream : RefT (List ℕ)) (cmds : List Placed) (ending : Ending) : Type 2 where
   pub by-steps : HandsOut (steps rules stream) cmds ending
   pub by-iterator : HandsOut (iterator rules stream) cmds ending
   pub typed-up : rules ≡ sentUp → HandsOut (uplinkSteps stream) cmds ending

@@ -1,0 +1,48 @@
+-- What is claimed of outcomes that a contract by hand admits (Outcomes.antt) is claimed of something: each of these contracts admits every outcome
+-- that its definition says.
+use Prim.Native.Nat.{ℕ}
+use mathlib.Core.List.{List}
+use mathlib.Core.Path.{_≡_}
+use denote.Ref.{RefT, now}
+use contract.Lifetimes.{Lfts}
+use Rattle.table.specs.Answers.{Answer}
+use Rattle.table.specs.Table.{lengthOf}
+use Rattle.table.specs.declared.rules.Rules.{Rules}
+use Rattle.payloads.specs.Commands.{sentUp, sentDown}
+use Rattle.walk.specs.Step.{Found, Heading}
+use Rattle.walk.specs.Told.{toldStep}
+use Rattle.walk.specs.declared.step.Step.{Step}
+use Rattle.build.specs.Build.{Built, totalOf, buildOf}
+use Rattle.build.specs.Told.{toldBuild}
+use Rattle.build.specs.declared.packed.BuildAnswer.{BuildAnswer}
+use Rattle.build.specs.declared.record.Record.{Record}
+use Rattle.lent.specs.Iterator.{fresh, nexted}
+use Rattle.lent.specs.Records.{itemsOf}
+use Rattle.lent.specs.declared.iterator.MacCommandIterator.{MacCommandIterator}
+use Rattle.lent.proofs.iterator.MacCommandIterator.new as new
+use Rattle.lent.proofs.iterator.MacCommandIterator.next as next
+use Rattle.lent.proofs.iterator.parse_uplink_mac_commands as parse-uplink
+use Rattle.lent.proofs.iterator.parse_downlink_mac_commands as parse-downlink
+use Rattle.lent.proofs.records.records_len as records-len
+use Rattle.lent.proofs.records.build_records as build-records
+use Rattle.lent.proofs.records.build_four as build-four
+use Rattle.claims.specs.Outcomes.{Admits}
+
+pub record ByHand : Type 2 where
+  pub new : (κs : Lfts 1) (s : RefT (List ℕ)) (rules : Rules) (exit : _) → Admits new.ended (λ M 𝓤. new.clauses 𝓤) κs (s, (rules, tt)) (fresh s rules) exit
+  pub parse-up : (κs : Lfts 1) (s : RefT (List ℕ)) (exit : _) → Admits parse-uplink.ended (λ M 𝓤. parse-uplink.clauses 𝓤) κs (s, tt) (fresh s sentUp) exit
+  pub parse-down : (κs : Lfts 1) (s : RefT (List ℕ)) (exit : _) → Admits parse-downlink.ended (λ M 𝓤. parse-downlink.clauses 𝓤) κs (s, tt) (fresh s sentDown) exit
+  pub next : (κs : Lfts 2) (it : RefT MacCommandIterator) (r : Step) (exit : RefT MacCommandIterator × Unit)
+      → _≡_ {A = Answer (Found Heading) × MacCommandIterator} (toldStep r, now (exit .0)) (nexted (now it))
+      → Admits next.ended (λ M 𝓤. next.clauses 𝓤) κs (it, tt) r exit
+  pub records-len : (κs : Lfts 1) (rules : Rules) (records : RefT (List Record)) (r : BuildAnswer) (exit : Rules × (RefT (List Record) × Unit))
+      → toldBuild r ≡ totalOf (lengthOf rules) (itemsOf (now records))
+      → Admits records-len.ended (λ M 𝓤. records-len.clauses 𝓤) κs (rules, (records, tt)) r exit
+  pub build-records : (κs : Lfts 2) (rules : Rules) (records : RefT (List Record)) (out : RefT (List ℕ)) (r : BuildAnswer)
+      (exit : Rules × (RefT (List Record) × (RefT (List ℕ) × Unit)))
+      → _≡_ {A = Built × List ℕ} (toldBuild r, now (exit .1 .1 .0)) (buildOf (lengthOf rules) (itemsOf (now records)) (now out))
+      → Admits build-records.ended (λ M 𝓤. build-records.clauses 𝓤) κs (rules, (records, (out, tt))) r exit
+  pub build-four : (κs : Lfts 1) (rules : Rules) (records : List Record) (out : RefT (List ℕ)) (r : BuildAnswer)
+      (exit : Rules × (List Record × (RefT (List ℕ) × Unit)))
+      → _≡_ {A = Built × List ℕ} (toldBuild r, now (exit .1 .1 .0)) (buildOf (lengthOf rules) (itemsOf records) (now out))
+      → Admits build-four.ended (λ M 𝓤. build-four.clauses 𝓤) κs (rules, (records, (out, tt))) r exit
