@@ -17,6 +17,8 @@ use Rattle.walk.specs.Walk.{Rule, Cmd, Walk, WellFormed, end, walkOf, encode, p
 use Rattle.walk.proofs.Ownership as Ownership
 use Rattle.build.specs.Records.{Rec, Item, whole, part, cmdOf, cmdsOf, judged, over}
 use Rattle.build.specs.Build.{Built, total, refusedAt, refused, next, sumFrom, totalOf, fill, buildOf}
+use Rattle.build.specs.Told.{toldBuild}
+use Rattle.build.specs.declared.packed.BuildAnswer.{BuildAnswer}
 use Rattle.build.specs.ThereAndBack.{Commands, Full, WalksBack, BuildThenWalk, Accepts, LengthIsWritten, EqualBytesEqualLists}
 use Rattle.build.proofs.Judging.{judged-given, judged-known}
 use Rattle.build.proofs.Sums.{too-many, not-too-many}
@@ -93,6 +95,13 @@ module _ (L : Rule) (xs : List Item) where
     not-filled n e h =
         ap (λ (b : Built). fill b (encode (cmdsOf xs)) out) e
         ∙ ap (λ (b : Bool). cond b (total n, over out 0 (encode (cmdsOf xs))) (refused 4, out)) (lt-leb n (length out) h)
+
+    -- and after a refusal of the list: as it was
+    pub kept : (answer is : BuildAnswer) → answer ≡ is → toldBuild answer ≡ totalOf L xs → fill (toldBuild is) (encode (cmdsOf xs)) out ≡ (toldBuild is, out)
+        → (toldBuild answer, out) ≡ buildOf L xs out
+    kept answer is e told refuses =
+        let t = ap toldBuild e in
+        ap (λ (b : Built). (b, out)) t ∙ sym refuses ∙ ap (λ (b : Built). fill b (encode (cmdsOf xs)) out) (sym t ∙ told)
 
     pub built : length xs ≤ 4096 → Commands L xs → length (encode (cmdsOf xs)) ≤ length out
         → buildOf L xs out ≡ (total (length (encode (cmdsOf xs))), over out 0 (encode (cmdsOf xs)))

@@ -93,10 +93,10 @@ fn write_all(records: &[u8], total: usize, out: &mut [u8])
     requires { ⌜ total ≤ length (now out) ⌝ }
     ensures { λ _. ⌜ now (out .exit) ≡ over (now (out .entry)) 0 (encode (map cmdOf (wholeSlots (now (records .entry))))) ⌝ }
 {
-    let whole = records.len() / 8;
+    let slots = records.len() / 8;
     let mut at: usize = 0;
     let mut i: usize = 0;
-    while i < whole {
+    while i < slots {
         let record = slot(records, i);
         at = record.lay(out, at, total);
         i += 1;

@@ -10,7 +10,7 @@ use Rattle.creators.specs.declared.dev_status.DevStatusAnsCreatorAnswer.
 use Rattle.creators.specs.declared.rx_timing_setup.RXTimingSetupReqCreatorAnswer.{RXTimingSetupReqCreatorAnswer}
 use Rattle.creators.specs.declared.tx_param_setup.TXParamSetupReqCreatorAnswer.{TXParamSetupReqCreatorAnswer}
 use Rattle.creators.specs.declared.device_time.DeviceTimeAnsCreatorAnswer.{DeviceTimeAnsCreatorAnswer}
-use Rattle.creators.proofs.Told.{uplink-tells, downlink-tells, image-tells}
+use Rattle.creators.proofs.Told.{uplink-kind-tells, uplink-tells, downlink-kind-tells, downlink-tells, image-tells}
 use Rattle.creators.proofs.link_check.LinkCheckReqCreator.new.Reads as link-check-req-new
 use Rattle.creators.proofs.link_check.LinkCheckReqCreator.default.Reads as link-check-req-default
 use Rattle.creators.proofs.link_check.LinkCheckReqCreator.build.Reads as link-check-req-build
@@ -614,7 +614,7 @@ uplink-from-device-time-req-one : Fixed uplink-from-device-time-req.Post
 uplink-from-device-time-req-one _ _ _ _ _ _ p q = uplink-tells (p ∙ sym q)
 
 uplink-kind-one : Fixed uplink-kind.Post
-uplink-kind-one _ _ _ _ _ _ p q = p ∙ sym q
+uplink-kind-one _ _ _ _ _ _ p q = uplink-kind-tells (p ∙ sym q)
 
 uplink-cid-one : Fixed uplink-cid.Post
 uplink-cid-one _ _ _ _ _ _ p q = p ∙ sym q
@@ -656,7 +656,7 @@ downlink-from-device-time-ans-one : Fixed downlink-from-device-time-ans.Post
 downlink-from-device-time-ans-one _ _ _ _ _ _ p q = downlink-tells (p ∙ sym q)
 
 downlink-kind-one : Fixed downlink-kind.Post
-downlink-kind-one _ _ _ _ _ _ p q = p ∙ sym q
+downlink-kind-one _ _ _ _ _ _ p q = downlink-kind-tells (p ∙ sym q)
 
 downlink-cid-one : Fixed downlink-cid.Post
 downlink-cid-one _ _ _ _ _ _ p q = p ∙ sym q

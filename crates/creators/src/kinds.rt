@@ -180,8 +180,9 @@ impl UplinkMacCommandCreator {
         uplink(UplinkKind::DeviceTimeReq, &data)
     }
 
+    // Which command it is.
     pub fn kind(self) -> UplinkKind
-        ensures { λ r. ⌜ r ≡ self .kind ⌝ }
+        ensures { λ r. ⌜ uplinkCommand r ≡ toldUplink self .0 ⌝ }
     {
         let kind = self.kind;
         kind
@@ -189,7 +190,7 @@ impl UplinkMacCommandCreator {
 
     // The CID of the kind, whatever the image's first byte.
     pub fn cid(self) -> u8
-        ensures { λ r. ⌜ r ≡ uplinkCommand (self .kind) .cid ⌝ }
+        ensures { λ r. ⌜ r ≡ toldUplink self .0 .cid ⌝ }
     {
         let kind = self.kind;
         let entry = kind.entry();
@@ -198,7 +199,7 @@ impl UplinkMacCommandCreator {
 
     // The image's length.
     pub fn len(self) -> usize
-        ensures { λ r. ⌜ r ≡ 1 + uplinkCommand (self .kind) .size ⌝ }
+        ensures { λ r. ⌜ r ≡ 1 + toldUplink self .0 .size ⌝ }
     {
         let kind = self.kind;
         let entry = kind.entry();
@@ -330,8 +331,9 @@ impl DownlinkMacCommandCreator {
         downlink(DownlinkKind::DeviceTimeAns, &data)
     }
 
+    // Which command it is.
     pub fn kind(self) -> DownlinkKind
-        ensures { λ r. ⌜ r ≡ self .kind ⌝ }
+        ensures { λ r. ⌜ downlinkCommand r ≡ toldDownlink self .0 ⌝ }
     {
         let kind = self.kind;
         kind
@@ -339,7 +341,7 @@ impl DownlinkMacCommandCreator {
 
     // The CID of the kind, whatever the image's first byte.
     pub fn cid(self) -> u8
-        ensures { λ r. ⌜ r ≡ downlinkCommand (self .kind) .cid ⌝ }
+        ensures { λ r. ⌜ r ≡ toldDownlink self .0 .cid ⌝ }
     {
         let kind = self.kind;
         let entry = kind.entry();
@@ -348,7 +350,7 @@ impl DownlinkMacCommandCreator {
 
     // The image's length.
     pub fn len(self) -> usize
-        ensures { λ r. ⌜ r ≡ 1 + downlinkCommand (self .kind) .size ⌝ }
+        ensures { λ r. ⌜ r ≡ 1 + toldDownlink self .0 .size ⌝ }
     {
         let kind = self.kind;
         let entry = kind.entry();

@@ -1,6 +1,6 @@
 -- Any two outcomes that a public function's contract admits are equal. Assumes nothing.
 use Prim.Native.Nat.{ℕ}
-use mathlib.Core.Path.{_≡_, refl, sym, ap, _∙_}
+use mathlib.Core.Path.{_≡_, sym, ap, _∙_}
 use mathlib.Core.List.{List}
 use Rattle.bits.proofs.Fixed.{Fixed}
 use Rattle.fields.proofs.Told.{frequency-tells}
@@ -175,7 +175,7 @@ room-tells : {x y : PayloadBytes} → _≡_ {A = ℕ × List ℕ} (x .len, x .by
 room-tells p = ap (λ (o : ℕ × List ℕ). record { len = o .0; bytes = o .1 }) p
 
 link-check-req-new-one : Fixed link-check-req-new.Post
-link-check-req-new-one _ _ _ _ _ _ p q = refl
+link-check-req-new-one _ _ _ _ _ _ p q = p ∙ sym q
 
 link-check-req-cid-one : Fixed link-check-req-cid.Post
 link-check-req-cid-one _ _ _ _ _ _ p q = p ∙ sym q
@@ -292,7 +292,7 @@ duty-cycle-req-max-duty-cycle-one : Fixed duty-cycle-req-max-duty-cycle.Post
 duty-cycle-req-max-duty-cycle-one _ _ _ _ _ _ p q = p ∙ sym q
 
 duty-cycle-ans-new-one : Fixed duty-cycle-ans-new.Post
-duty-cycle-ans-new-one _ _ _ _ _ _ p q = refl
+duty-cycle-ans-new-one _ _ _ _ _ _ p q = p ∙ sym q
 
 duty-cycle-ans-cid-one : Fixed duty-cycle-ans-cid.Post
 duty-cycle-ans-cid-one _ _ _ _ _ _ p q = p ∙ sym q
@@ -355,7 +355,7 @@ rx-param-setup-ans-ack-one : Fixed rx-param-setup-ans-ack.Post
 rx-param-setup-ans-ack-one _ _ _ _ _ _ p q = p ∙ sym q
 
 dev-status-req-new-one : Fixed dev-status-req-new.Post
-dev-status-req-new-one _ _ _ _ _ _ p q = refl
+dev-status-req-new-one _ _ _ _ _ _ p q = p ∙ sym q
 
 dev-status-req-cid-one : Fixed dev-status-req-cid.Post
 dev-status-req-cid-one _ _ _ _ _ _ p q = p ∙ sym q
@@ -457,7 +457,7 @@ rx-timing-setup-req-delay-one : Fixed rx-timing-setup-req-delay.Post
 rx-timing-setup-req-delay-one _ _ _ _ _ _ p q = p ∙ sym q
 
 rx-timing-setup-ans-new-one : Fixed rx-timing-setup-ans-new.Post
-rx-timing-setup-ans-new-one _ _ _ _ _ _ p q = refl
+rx-timing-setup-ans-new-one _ _ _ _ _ _ p q = p ∙ sym q
 
 rx-timing-setup-ans-cid-one : Fixed rx-timing-setup-ans-cid.Post
 rx-timing-setup-ans-cid-one _ _ _ _ _ _ p q = p ∙ sym q
@@ -496,7 +496,7 @@ tx-param-setup-req-max-eirp-one : Fixed tx-param-setup-req-max-eirp.Post
 tx-param-setup-req-max-eirp-one _ _ _ _ _ _ p q = p ∙ sym q
 
 tx-param-setup-ans-new-one : Fixed tx-param-setup-ans-new.Post
-tx-param-setup-ans-new-one _ _ _ _ _ _ p q = refl
+tx-param-setup-ans-new-one _ _ _ _ _ _ p q = p ∙ sym q
 
 tx-param-setup-ans-cid-one : Fixed tx-param-setup-ans-cid.Post
 tx-param-setup-ans-cid-one _ _ _ _ _ _ p q = p ∙ sym q
@@ -556,7 +556,7 @@ dl-channel-ans-ack-one : Fixed dl-channel-ans-ack.Post
 dl-channel-ans-ack-one _ _ _ _ _ _ p q = p ∙ sym q
 
 device-time-req-new-one : Fixed device-time-req-new.Post
-device-time-req-new-one _ _ _ _ _ _ p q = refl
+device-time-req-new-one _ _ _ _ _ _ p q = p ∙ sym q
 
 device-time-req-cid-one : Fixed device-time-req-cid.Post
 device-time-req-cid-one _ _ _ _ _ _ p q = p ∙ sym q

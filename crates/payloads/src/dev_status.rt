@@ -1,6 +1,5 @@
 use table::Refusal;
 ghost use mathlib.Core.Path.{_≡_};
-ghost use mathlib.Core.List.{[]};
 ghost use Rattle.table.specs.Table.{named, flagOf};
 ghost use Rattle.fields.specs.Lists.{exactly};
 ghost use Rattle.fields.specs.Places.{numberAt, DevStatusAns·battery};
@@ -14,7 +13,7 @@ pub struct DevStatusReqPayload();
 impl DevStatusReqPayload {
     // Any slice, of which nothing is kept.
     pub fn new(_data: &[u8]) -> DevStatusReqPayload
-        ensures { λ r. ⌜ DevStatusReq·bytes r ≡ [] ⌝ }
+        ensures { λ r. ⌜ r ≡ record {} ⌝ }
     {
         DevStatusReqPayload()
     }

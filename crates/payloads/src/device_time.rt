@@ -1,6 +1,5 @@
 use table::Refusal;
 ghost use mathlib.Core.Path.{_≡_};
-ghost use mathlib.Core.List.{[]};
 ghost use Rattle.table.specs.Table.{named, flagOf};
 ghost use Rattle.fields.specs.Lists.{exactly};
 ghost use Rattle.payloads.specs.Bytes.{DeviceTimeAns·bytes, DeviceTimeReq·bytes};
@@ -13,7 +12,7 @@ pub struct DeviceTimeReqPayload();
 impl DeviceTimeReqPayload {
     // Any slice, of which nothing is kept.
     pub fn new(_data: &[u8]) -> DeviceTimeReqPayload
-        ensures { λ r. ⌜ DeviceTimeReq·bytes r ≡ [] ⌝ }
+        ensures { λ r. ⌜ r ≡ record {} ⌝ }
     {
         DeviceTimeReqPayload()
     }

@@ -1,6 +1,5 @@
 use table::Refusal;
 ghost use mathlib.Core.Path.{_≡_};
-ghost use mathlib.Core.List.{[]};
 ghost use Rattle.table.specs.Table.{named, flagOf};
 ghost use Rattle.fields.specs.Lists.{exactly};
 ghost use Rattle.fields.specs.Places.{numberAt, DutyCycleReq·maxDutyCycle};
@@ -73,7 +72,7 @@ pub struct DutyCycleAnsPayload();
 impl DutyCycleAnsPayload {
     // Any slice, of which nothing is kept.
     pub fn new(_data: &[u8]) -> DutyCycleAnsPayload
-        ensures { λ r. ⌜ DutyCycleAns·bytes r ≡ [] ⌝ }
+        ensures { λ r. ⌜ r ≡ record {} ⌝ }
     {
         DutyCycleAnsPayload()
     }

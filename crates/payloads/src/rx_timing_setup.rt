@@ -1,6 +1,5 @@
 use table::Refusal;
 ghost use mathlib.Core.Path.{_≡_};
-ghost use mathlib.Core.List.{[]};
 ghost use Rattle.table.specs.Table.{named, flagOf};
 ghost use Rattle.fields.specs.Lists.{exactly};
 ghost use Rattle.payloads.specs.Bytes.{RXTimingSetupAns·bytes, RXTimingSetupReq·bytes};
@@ -64,7 +63,7 @@ pub struct RXTimingSetupAnsPayload();
 impl RXTimingSetupAnsPayload {
     // Any slice, of which nothing is kept.
     pub fn new(_data: &[u8]) -> RXTimingSetupAnsPayload
-        ensures { λ r. ⌜ RXTimingSetupAns·bytes r ≡ [] ⌝ }
+        ensures { λ r. ⌜ r ≡ record {} ⌝ }
     {
         RXTimingSetupAnsPayload()
     }

@@ -1,6 +1,5 @@
 use table::Refusal;
 ghost use mathlib.Core.Path.{_≡_};
-ghost use mathlib.Core.List.{[]};
 ghost use Rattle.table.specs.Table.{named, flagOf};
 ghost use Rattle.fields.specs.Lists.{exactly};
 ghost use Rattle.fields.specs.Places.{yesAt, TXParamSetupReq·downlinkDwellTime, TXParamSetupReq·uplinkDwellTime};
@@ -96,7 +95,7 @@ pub struct TXParamSetupAnsPayload();
 impl TXParamSetupAnsPayload {
     // Any slice, of which nothing is kept.
     pub fn new(_data: &[u8]) -> TXParamSetupAnsPayload
-        ensures { λ r. ⌜ TXParamSetupAns·bytes r ≡ [] ⌝ }
+        ensures { λ r. ⌜ r ≡ record {} ⌝ }
     {
         TXParamSetupAnsPayload()
     }

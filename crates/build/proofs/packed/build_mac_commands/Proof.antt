@@ -6,12 +6,12 @@ use native.Mathlib.Omega.{arith}
 use lib.ListN.{length}
 use Rattle.table.specs.Table.{lengthOf}
 use Rattle.walk.specs.Walk.{Cmd, encode}
-use Rattle.build.specs.Records.{cmdOf, cmdsOf, slotsOf, wholeSlots, over}
-use Rattle.build.specs.Build.{Built, total, totalOf, fill}
+use Rattle.build.specs.Records.{cmdOf, slotsOf, wholeSlots, over}
+use Rattle.build.specs.Build.{total, totalOf}
 use Rattle.build.specs.Told.{toldBuild}
 use Rattle.build.proofs.Laying.{over-length}
 use Rattle.build.proofs.Slots.{cmds-of-slots, slots-full}
-use Rattle.build.proofs.ThereAndBack.{length-is-written, filled, not-filled}
+use Rattle.build.proofs.ThereAndBack.{length-is-written, filled, not-filled, kept}
 use borrow.Author.Needs.{needs}
 use Rattle.build.proofs.packed.build_mac_commands.Statement.{statement}
 use Rattle.build.proofs.packed.build_mac_commands.Tie as tie
@@ -75,20 +75,10 @@ returns-2 c =
     ∙ sym (filled L (slotsOf s) (a .out .now) n e (omega arith))
 
 returns-3 : tie.Need-returns-3
-returns-3 c =
-    let a = c .before .before .before .before .before .args in
-    let told = ap toldBuild (c .enum-told .given .1) in
-    ap (λ (b : Built). (b, a .out .now)) told
-    ∙ sym (ap (λ (b : Built). fill b (encode (cmdsOf (slotsOf (a .records .now)))) (a .out .now))
-    (sym (c .before .before .mac-commands-len .ensures) ∙ told))
+returns-3 c = search kept
 
 returns-4 : tie.Need-returns-4
-returns-4 c =
-    let a = c .before .before .before .before .before .args in
-    let told = ap toldBuild (c .enum-told2 .given .1) in
-    ap (λ (b : Built). (b, a .out .now)) told
-    ∙ sym (ap (λ (b : Built). fill b (encode (cmdsOf (slotsOf (a .records .now)))) (a .out .now))
-    (sym (c .before .before .mac-commands-len .ensures) ∙ told))
+returns-4 c = search kept
 
 pub build-mac-commands-spec : {M : Type 1} → statement M
 build-mac-commands-spec =
