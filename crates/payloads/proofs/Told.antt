@@ -151,10 +151,7 @@ LinkADRReq·bytes-tell e = by-inverse LinkADRReq·bytes (λ s. record { 0 = getD
 
 -- ---- the commands of each direction, by CID and bytes. The CIDs begin at 2 and leave out 0B and 0C: the last is 0D's
 
-abbrev uplinkTold : UplinkMacCommand → ℕ × List ℕ
-uplinkTold c = (uplinkEntry c .cid, uplinkBytes c)
-
-uplinkOf : ℕ × List ℕ → UplinkMacCommand
+pub uplinkOf : ℕ × List ℕ → UplinkMacCommand
 uplinkOf x =
     let s = x .1 in
     getD
@@ -171,7 +168,7 @@ uplinkOf x =
     (x .0 - 2)
     (Uplink.DeviceTimeReq record {})
 
-uplink-back : (c : UplinkMacCommand) → uplinkOf (uplinkTold c) ≡ c
+pub uplink-back : (c : UplinkMacCommand) → uplinkOf (uplinkEntry c .cid, uplinkBytes c) ≡ c
 unfolding uplinkOf
 uplink-back (Uplink.LinkCheckReq p) = refl
 uplink-back (Uplink.LinkADRAns p) = refl
@@ -184,13 +181,7 @@ uplink-back (Uplink.TXParamSetupAns p) = refl
 uplink-back (Uplink.DlChannelAns p) = refl
 uplink-back (Uplink.DeviceTimeReq p) = refl
 
-pub uplink-tells : {c d : UplinkMacCommand} → uplinkTold c ≡ uplinkTold d → c ≡ d
-uplink-tells e = by-inverse uplinkTold uplinkOf uplink-back e
-
-abbrev downlinkTold : DownlinkMacCommand → ℕ × List ℕ
-downlinkTold c = (downlinkEntry c .cid, downlinkBytes c)
-
-downlinkOf : ℕ × List ℕ → DownlinkMacCommand
+pub downlinkOf : ℕ × List ℕ → DownlinkMacCommand
 downlinkOf x =
     let s = x .1 in
     getD
@@ -207,7 +198,7 @@ downlinkOf x =
     (x .0 - 2)
     (Downlink.DeviceTimeAns record { 0 = getD s 0 0; 1 = getD s 1 0; 2 = getD s 2 0; 3 = getD s 3 0; 4 = getD s 4 0 })
 
-downlink-back : (c : DownlinkMacCommand) → downlinkOf (downlinkTold c) ≡ c
+pub downlink-back : (c : DownlinkMacCommand) → downlinkOf (downlinkEntry c .cid, downlinkBytes c) ≡ c
 unfolding downlinkOf
 downlink-back (Downlink.LinkCheckAns p) = refl
 downlink-back (Downlink.LinkADRReq p) = refl
@@ -219,6 +210,3 @@ downlink-back (Downlink.RXTimingSetupReq p) = refl
 downlink-back (Downlink.TXParamSetupReq p) = refl
 downlink-back (Downlink.DlChannelReq p) = refl
 downlink-back (Downlink.DeviceTimeAns p) = refl
-
-pub downlink-tells : {c d : DownlinkMacCommand} → downlinkTold c ≡ downlinkTold d → c ≡ d
-downlink-tells e = by-inverse downlinkTold downlinkOf downlink-back e

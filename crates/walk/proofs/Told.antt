@@ -1,13 +1,13 @@
 -- An answer of this crate is known from what it tells: each `told` has an inverse. Assumes nothing.
 use Prim.Native.Nat.{ℕ}
 use mathlib.Core.Path.{_≡_, refl, ap, ap₂}
-use native.Mathlib.Omega.{arith}
 use Rattle.bits.proofs.Fixed.{by-inverse}
 use Rattle.table.specs.Answers.{Answer, given, refused}
+use Rattle.table.specs.declared.refusal.Refusal.{Refusal}
 use Rattle.table.proofs.Told.{numbered, numbered-number}
 use Rattle.payloads.specs.declared.uplink.UplinkMacCommand.{UplinkMacCommand}
 use Rattle.payloads.specs.declared.downlink.DownlinkMacCommand.{DownlinkMacCommand}
-use Rattle.payloads.proofs.Told.{uplink-tells, downlink-tells}
+use Rattle.payloads.proofs.Told.{uplinkOf, uplink-back, downlinkOf, downlink-back}
 use Rattle.walk.specs.declared.command.UplinkStep.{UplinkStep}
 use Rattle.walk.specs.declared.command.UplinkStep.the-variants as UplinkStep
 use Rattle.walk.specs.declared.command.DownlinkStep.{DownlinkStep}
@@ -22,83 +22,61 @@ use Rattle.walk.specs.Step.{Found, ended, command, stopped, Heading, ret
 use Rattle.walk.specs.Told.{toldStep, uplinkFound, toldUplinkStep, downlinkFound, toldDownlinkStep, toldOutcome, toldWalk}
 use Rattle.walk.specs.Walk.{Cmd, Ending, end, stop}
 
-stepTold : Answer (Found Heading) → Step
-stepTold (given ended) = Step.End
-stepTold (given (command h next)) = Step.Command (h .cid) (h .len) next
-stepTold (given (stopped n at)) = Step.Stop (numbered n) at
-stepTold (refused n) = Step.Refused (numbered n)
+-- what a step was made of, by its four forms
+abbrev made : {C S : Type 0} → S → (C → ℕ → S) → (Refusal → ℕ → S) → (Refusal → S) → Answer (Found C) → S
+made atEnd atCommand atStop past (given ended) = atEnd
+made atEnd atCommand atStop past (given (command c next)) = atCommand c next
+made atEnd atCommand atStop past (given (stopped n at)) = atStop (numbered n) at
+made atEnd atCommand atStop past (refused n) = past (numbered n)
 
-step-back : (x : Step) → stepTold (toldStep x) ≡ x
-unfolding stepTold
-step-back Step.End = refl
-step-back (Step.Command cid len next) = refl
-step-back (Step.Stop r at) = ap (λ r. Step.Stop r at) (numbered-number r)
-step-back (Step.Refused r) = ap Step.Refused (numbered-number r)
+made-tells : {C S : Type 0} (told : S → Answer (Found C)) (atEnd : S) (atCommand : C → ℕ → S) (atStop : Refusal → ℕ → S) (past : Refusal → S)
+    → ((x : S) → made atEnd atCommand atStop past (told x) ≡ x) → {x y : S} → told x ≡ told y → x ≡ y
+made-tells told atEnd atCommand atStop past back p = by-inverse told (made atEnd atCommand atStop past) back p
 
 pub step-tells : {x y : Step} → toldStep x ≡ toldStep y → x ≡ y
-step-tells p = by-inverse toldStep stepTold step-back p
-
--- two constructors are never equal
-differ : {X : Type 0} → _≡_ {A = ℕ} 0 1 → X
-differ e = absurd (omega arith)
+step-tells =
+    made-tells toldStep Step.End (λ h next. Step.Command (h .cid) (h .len) next) Step.Stop Step.Refused
+    (elim [
+      | Step.End ↦ refl
+      | Step.Command cid len next ↦ refl
+      | Step.Stop r at ↦ ap (λ r. Step.Stop r at) (numbered-number r)
+      | Step.Refused r ↦ ap Step.Refused (numbered-number r)
+    ])
 
 -- a finding is known from what is told of it, if a command is
-module _ {A B : Type 0} (f : A → B) (inj : (x y : A) → f x ≡ f y → x ≡ y) where
-  retold-tells : (a b : Answer (Found A)) → retold f a ≡ retold f b → a ≡ b
-  retold-tells (given ended) (given ended) e = refl
-  retold-tells (given ended) (given (command d n)) e = differ (cc)
-  retold-tells (given ended) (given (stopped l p)) e = differ (cc)
-  retold-tells (given ended) (refused l) e = differ (cc)
-  retold-tells (given (command c m)) (given ended) e = differ (cc)
-  retold-tells (given (command c m)) (given (command d n)) e = let same : f c ≡ f d = cc in ap₂ (λ (c : A) (n : ℕ). given (command c n)) (inj c d same) (cc)
-  retold-tells (given (command c m)) (given (stopped l p)) e = differ (cc)
-  retold-tells (given (command c m)) (refused l) e = differ (cc)
-  retold-tells (given (stopped k o)) (given ended) e = differ (cc)
-  retold-tells (given (stopped k o)) (given (command d n)) e = differ (cc)
-  retold-tells (given (stopped k o)) (given (stopped l p)) e = cc
-  retold-tells (given (stopped k o)) (refused l) e = differ (cc)
-  retold-tells (refused k) (given ended) e = differ (cc)
-  retold-tells (refused k) (given (command d n)) e = differ (cc)
-  retold-tells (refused k) (given (stopped l p)) e = differ (cc)
-  retold-tells (refused k) (refused l) e = cc
+retold-back : {A B : Type 0} (f : A → B) (g : B → A) → ((x : A) → g (f x) ≡ x) → (a : Answer (Found A)) → retold g (retold f a) ≡ a
+retold-back f g back (given ended) = refl
+retold-back f g back (given (command c next)) = ap (λ c. given (command c next)) (back c)
+retold-back f g back (given (stopped n at)) = refl
+retold-back f g back (refused n) = refl
 
-uplink-command-tells : (c d : UplinkMacCommand) → uplinkCmd c ≡ uplinkCmd d → c ≡ d
-uplink-command-tells c d e = uplink-tells (ap (λ (x : Cmd). (x .cid, x .body)) e)
-
-uplinkStep : Answer (Found UplinkMacCommand) → UplinkStep
-uplinkStep (given ended) = UplinkStep.End
-uplinkStep (given (command c next)) = UplinkStep.Command c next
-uplinkStep (given (stopped n at)) = UplinkStep.Stop (numbered n) at
-uplinkStep (refused n) = UplinkStep.Refused (numbered n)
-
-uplink-step-back : (x : UplinkStep) → uplinkStep (uplinkFound x) ≡ x
-unfolding uplinkStep
-uplink-step-back UplinkStep.End = refl
-uplink-step-back (UplinkStep.Command c next) = refl
-uplink-step-back (UplinkStep.Stop r at) = ap (λ r. UplinkStep.Stop r at) (numbered-number r)
-uplink-step-back (UplinkStep.Refused r) = ap UplinkStep.Refused (numbered-number r)
+abbrev uplinkBack : Cmd → UplinkMacCommand
+uplinkBack c = uplinkOf (c .cid, c .body)
 
 pub uplink-step-tells : {x y : UplinkStep} → toldUplinkStep x ≡ toldUplinkStep y → x ≡ y
-uplink-step-tells {x} {y} p = by-inverse uplinkFound uplinkStep uplink-step-back (retold-tells uplinkCmd uplink-command-tells (uplinkFound x) (uplinkFound y) p)
+uplink-step-tells p =
+    made-tells uplinkFound UplinkStep.End UplinkStep.Command UplinkStep.Stop UplinkStep.Refused
+    (elim [
+      | UplinkStep.End ↦ refl
+      | UplinkStep.Command c next ↦ refl
+      | UplinkStep.Stop r at ↦ ap (λ r. UplinkStep.Stop r at) (numbered-number r)
+      | UplinkStep.Refused r ↦ ap UplinkStep.Refused (numbered-number r)
+    ])
+    (by-inverse (retold uplinkCmd) (retold uplinkBack) (retold-back uplinkCmd uplinkBack uplink-back) p)
 
-downlink-command-tells : (c d : DownlinkMacCommand) → downlinkCmd c ≡ downlinkCmd d → c ≡ d
-downlink-command-tells c d e = downlink-tells (ap (λ (x : Cmd). (x .cid, x .body)) e)
-
-downlinkStep : Answer (Found DownlinkMacCommand) → DownlinkStep
-downlinkStep (given ended) = DownlinkStep.End
-downlinkStep (given (command c next)) = DownlinkStep.Command c next
-downlinkStep (given (stopped n at)) = DownlinkStep.Stop (numbered n) at
-downlinkStep (refused n) = DownlinkStep.Refused (numbered n)
-
-downlink-step-back : (x : DownlinkStep) → downlinkStep (downlinkFound x) ≡ x
-unfolding downlinkStep
-downlink-step-back DownlinkStep.End = refl
-downlink-step-back (DownlinkStep.Command c next) = refl
-downlink-step-back (DownlinkStep.Stop r at) = ap (λ r. DownlinkStep.Stop r at) (numbered-number r)
-downlink-step-back (DownlinkStep.Refused r) = ap DownlinkStep.Refused (numbered-number r)
+abbrev downlinkBack : Cmd → DownlinkMacCommand
+downlinkBack c = downlinkOf (c .cid, c .body)
 
 pub downlink-step-tells : {x y : DownlinkStep} → toldDownlinkStep x ≡ toldDownlinkStep y → x ≡ y
-downlink-step-tells {x} {y} p = by-inverse downlinkFound downlinkStep downlink-step-back (retold-tells downlinkCmd downlink-command-tells (downlinkFound x) (downlinkFound y) p)
+downlink-step-tells p =
+    made-tells downlinkFound DownlinkStep.End DownlinkStep.Command DownlinkStep.Stop DownlinkStep.Refused
+    (elim [
+      | DownlinkStep.End ↦ refl
+      | DownlinkStep.Command c next ↦ refl
+      | DownlinkStep.Stop r at ↦ ap (λ r. DownlinkStep.Stop r at) (numbered-number r)
+      | DownlinkStep.Refused r ↦ ap DownlinkStep.Refused (numbered-number r)
+    ])
+    (by-inverse (retold downlinkCmd) (retold downlinkBack) (retold-back downlinkCmd downlinkBack downlink-back) p)
 
 outcomeTold : Answer Ending → Outcome
 outcomeTold (given (end at)) = Outcome.End at

@@ -6,20 +6,8 @@ use borrow.Author.Needs.{needs}
 use Rattle.walk.proofs.chooser.choose.Statement.{statement}
 use Rattle.walk.proofs.chooser.choose.Tie as tie
 
-choose-verdict-requires : tie.Need-choose-verdict-requires
-choose-verdict-requires c κs = search needs
-
 enum-told : tie.Need-enum-told
 enum-told c = search needs
-
-in-payload-requires : tie.Need-in-payload-requires
-in-payload-requires c κs = search needs
-
-enum-told-2 : tie.Need-enum-told-2
-enum-told-2 c = search needs
-
-slice-aggregate-result : tie.Need-slice-aggregate-result
-slice-aggregate-result c = search needs
 
 returns : tie.Need-returns
 returns c = rw (sym (c .before .before .before .before .choose-verdict .ensures) ∙ ap toldVerdict (c .before .before .enum-told .given .1), sym (c .before .in-payload .ensures) ∙ c .if1 .taken)
@@ -34,11 +22,11 @@ pub choose-spec : {M : Type 1} → statement M
 choose-spec =
     tie.close
     (tie.spec
-    choose-verdict-requires
+    (λ c κs. search needs)
     enum-told
-    in-payload-requires
-    enum-told-2
-    slice-aggregate-result
+    (λ c κs. search needs)
+    (λ c. search needs)
+    (λ c. search needs)
     returns
     returns-2
     returns-3)

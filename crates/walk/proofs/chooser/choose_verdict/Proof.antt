@@ -5,17 +5,11 @@ use borrow.Author.Needs.{needs}
 use Rattle.walk.proofs.chooser.choose_verdict.Statement.{statement}
 use Rattle.walk.proofs.chooser.choose_verdict.Tie as tie
 
-without-port-requires : tie.Need-without-port-requires
-without-port-requires c κs = search needs
-
 returns : tie.Need-returns
 returns c = rw (sym (c .before .without-port .ensures) ∙ c .if1 .taken)
 
 returns-2 : tie.Need-returns-2
 returns-2 c = rw (sym (c .before .before .without-port .ensures) ∙ c .before .if1 .left, lt-ltb _ _ (c .if2 .taken))
-
-in-both-requires : tie.Need-in-both-requires
-in-both-requires c κs = search needs
 
 returns-3 : tie.Need-returns-3
 returns-3 c = rw (sym (c .before .before .before .before .without-port .ensures) ∙ c .before .before .before .if1 .left, le-ltb _ _ (c .before .before .if2 .left), sym (c .before .in-both .ensures) ∙ c .if3 .taken)
@@ -26,4 +20,4 @@ returns-4 c = rw (sym (c .before .before .before .before .without-port .ensures)
 pub choose-verdict-spec : {M : Type 1} → statement M
 choose-verdict-spec =
     tie.close
-    (tie.spec without-port-requires returns returns-2 in-both-requires returns-3 returns-4)
+    (tie.spec (λ c κs. search needs) returns returns-2 (λ c κs. search needs) returns-3 returns-4)

@@ -4,15 +4,6 @@ use borrow.Author.Needs.{needs}
 use Rattle.walk.proofs.chooser.in_payload.Statement.{statement}
 use Rattle.walk.proofs.chooser.in_payload.Tie as tie
 
-enum-told : tie.Need-enum-told
-enum-told c = search needs
-
-enum-known-port : tie.Need-enum-known-port
-enum-known-port c = search needs
-
-returns : tie.Need-returns
-returns c = search needs
-
 returns-2 : tie.Need-returns-2
 returns-2 c = rw (c .before .before .port .given .1, eq-eqb _ _ (c .if1 .taken))
 
@@ -20,4 +11,4 @@ returns-3 : tie.Need-returns-3
 returns-3 c = rw (c .before .before .port .given .1, ne-eqb _ _ (c .if1 .left))
 
 pub in-payload-spec : {M : Type 1} → statement M
-in-payload-spec = tie.close (tie.spec enum-told enum-known-port returns returns-2 returns-3)
+in-payload-spec = tie.close (tie.spec (λ c. search needs) (λ c. search needs) (λ c. search needs) returns-2 returns-3)

@@ -20,15 +20,6 @@ returns c = sym (found-past (lengthOf sentDown) _ (c .if2 .taken))
 returns-2 : tie.Need-returns-2
 returns-2 c = sym (found-end (lengthOf sentDown) _ (c .if2 .left) (c .before .if1 .taken))
 
-shared-slice-read-cid : tie.Need-shared-slice-read-cid
-shared-slice-read-cid c = search needs
-
-sub-left : tie.Need-sub-left
-sub-left c = search needs
-
-downlink-fits-requires : tie.Need-downlink-fits-requires
-downlink-fits-requires c κs = search needs
-
 enum-told : tie.Need-enum-told
 enum-told c = search needs
 
@@ -36,9 +27,6 @@ downlink-command-requires : tie.Need-downlink-command-requires
 downlink-command-requires c κs =
     room-stands (lengthOf sentDown) _ (c .before .before .before .before .if1 .left)
     (sym (c .before .before .downlink-fits .ensures) ∙ ap toldVerdict (c .enum-told .given .1))
-
-len-requires : tie.Need-len-requires
-len-requires c κs = search needs
 
 -- the typed command ends in the stream, where the code says
 ends : (c : tie.After-len) → c .before .before .before .before .before .before .before .before .args .at + 1 + c .len .result ≤ length (c .before .before .before .before .before .before .before .before .args .stream .now)
@@ -52,9 +40,6 @@ add-body c = let m = ends c in omega arith
 
 add-behind : tie.Need-add-behind
 add-behind c = let m = ends c in omega arith
-
-enum-known-verdict : tie.Need-enum-known-verdict
-enum-known-verdict c = search needs
 
 returns-3 : tie.Need-returns-3
 returns-3 c =
@@ -74,14 +59,14 @@ downlink-at-spec =
     (tie.spec
     returns
     returns-2
-    shared-slice-read-cid
-    sub-left
-    downlink-fits-requires
+    (λ c. search needs)
+    (λ c. search needs)
+    (λ c κs. search needs)
     enum-told
     downlink-command-requires
-    len-requires
+    (λ c κs. search needs)
     add-body
     add-behind
-    enum-known-verdict
+    (λ c. search needs)
     returns-3
     returns-4)

@@ -23,17 +23,8 @@ stands c = record {
   step = sym (c .before .before .before .step-at .ensures) ∙ ap toldStep (c .before .found .given .1);
 }
 
-step-at-requires : tie.Need-step-at-requires
-step-at-requires c κs = search needs
-
-enum-known-found : tie.Need-enum-known-found
-enum-known-found c = search needs
-
 uplink-command-requires : tie.Need-uplink-command-requires
 uplink-command-requires c κs = stands c
-
-len-requires : tie.Need-len-requires
-len-requires c κs = search needs
 
 -- the typed command ends in the stream, where the code says
 ends : (c : tie.After-len) → c .before .before .before .before .before .before .before .args .at + 1 + c .len .result ≤ length (c .before .before .before .before .before .before .before .args .stream .now)
@@ -50,12 +41,6 @@ add-behind c = let m = ends c in omega arith
 
 enum-told : tie.Need-enum-told
 enum-told c = search needs
-
-enum-known-found-2 : tie.Need-enum-known-found-2
-enum-known-found-2 c = search needs
-
-enum-known-found-3 : tie.Need-enum-known-found-3
-enum-known-found-3 c = search needs
 
 returns : tie.Need-returns
 returns c =
@@ -76,15 +61,15 @@ pub uplink-at-spec : {M : Type 1} → statement M
 uplink-at-spec =
     tie.close
     (tie.spec
-    step-at-requires
-    enum-known-found
+    (λ c κs. search needs)
+    (λ c. search needs)
     uplink-command-requires
-    len-requires
+    (λ c κs. search needs)
     add-body
     add-behind
     enum-told
-    enum-known-found-2
-    enum-known-found-3
+    (λ c. search needs)
+    (λ c. search needs)
     returns
     returns-2
     returns-3

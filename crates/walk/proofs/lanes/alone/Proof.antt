@@ -20,18 +20,6 @@ abbrev μ-loop : tie.MeasureT-loop
 loop-holds : tie.Need-loop-holds Inv-loop μ-loop
 loop-holds c = (leads-nowhere _ _ _, omega arith)
 
-behind-requires : tie.Need-behind-requires Inv-loop μ-loop
-behind-requires c κs = search needs
-
-enum-told : tie.Need-enum-told Inv-loop μ-loop
-enum-told c = search needs
-
-enum-known-next : tie.Need-enum-known-next Inv-loop μ-loop
-enum-known-next c = search needs
-
-add-count : tie.Need-add-count Inv-loop μ-loop
-add-count c = search needs
-
 loop-less : tie.Need-loop-less Inv-loop μ-loop
 loop-less c = let next = comes _ _ _ _ (c .before .before .before .behind .ensures) (c .before .next .given .1) in omega arith
 
@@ -40,12 +28,6 @@ loop-again c =
     let next = comes _ _ _ _ (c .before .before .before .behind .ensures) (c .before .next .given .1) in
     (leads-on _ _ (c .before .before .before .before .before .loop .inv .0) (next .0), next .1)
 
-returns : tie.Need-returns Inv-loop μ-loop
-returns c = search needs
-
-returns-2 : tie.Need-returns-2 Inv-loop μ-loop
-returns-2 c = search needs
-
 pub alone-spec : {M : Type 1} → statement M
 alone-spec =
     tie.close
@@ -53,11 +35,11 @@ alone-spec =
     Inv-loop
     μ-loop
     loop-holds
-    behind-requires
-    enum-told
-    enum-known-next
-    add-count
+    (λ c κs. search needs)
+    (λ c. search needs)
+    (λ c. search needs)
+    (λ c. search needs)
     loop-less
     loop-again
-    returns
-    returns-2)
+    (λ c. search needs)
+    (λ c. search needs))

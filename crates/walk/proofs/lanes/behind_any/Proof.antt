@@ -7,26 +7,8 @@ use borrow.Author.Needs.{needs}
 use Rattle.walk.proofs.lanes.behind_any.Statement.{statement}
 use Rattle.walk.proofs.lanes.behind_any.Tie as tie
 
-shared-slice-read-cid : tie.Need-shared-slice-read-cid
-shared-slice-read-cid c = search needs
-
-add-body : tie.Need-add-body
-add-body c = search needs
-
-payload-len-requires : tie.Need-payload-len-requires
-payload-len-requires c κs = search needs
-
-enum-told : tie.Need-enum-told
-enum-told c = search needs
-
-enum-known-length : tie.Need-enum-known-length
-enum-known-length c = search needs
-
 add-next : tie.Need-add-next
 add-next c = let next = any (c .before .before .before .before .before .before .args .rules) (c .before .before .before .before .before .before .args .stream .now) (c .before .before .before .before .before .before .args .at) (omega arith) (sym (c .before .before .before .payload-len .ensures) ∙ ap toldLength (c .before .length .given .1)) in omega arith
-
-returns : tie.Need-returns
-returns c = search needs
 
 returns-2 : tie.Need-returns-2
 returns-2 c = any (c .before .before .before .before .before .before .args .rules) (c .before .before .before .before .before .before .args .stream .now) (c .before .before .before .before .before .before .args .at) (omega arith) (sym (c .before .before .before .payload-len .ensures) ∙ ap toldLength (c .before .length .given .1))
@@ -35,11 +17,11 @@ pub behind-any-spec : {M : Type 1} → statement M
 behind-any-spec =
     tie.close
     (tie.spec
-    shared-slice-read-cid
-    add-body
-    payload-len-requires
-    enum-told
-    enum-known-length
+    (λ c. search needs)
+    (λ c. search needs)
+    (λ c κs. search needs)
+    (λ c. search needs)
+    (λ c. search needs)
     add-next
-    returns
+    (λ c. search needs)
     returns-2)

@@ -8,44 +8,14 @@ use Rattle.walk.proofs.lanes.in_lanes.Tie as tie
 returns : tie.Need-returns
 returns c = leads-nowhere _ _ _
 
-place-near-requires : tie.Need-place-near-requires
-place-near-requires c κs = search needs
-
-add-place-near : tie.Need-add-place-near
-add-place-near c = search needs
-
-place-near-requires-2 : tie.Need-place-near-requires-2
-place-near-requires-2 c κs = search needs
-
-sub-last : tie.Need-sub-last
-sub-last c = search needs
-
 returns-2 : tie.Need-returns-2
 returns-2 c = leads-nowhere _ _ _
 
 returns-3 : tie.Need-returns-3
 returns-3 c = leads-nowhere _ _ _
 
-together-requires : tie.Need-together-requires
-together-requires c κs = search needs
-
-alone-requires : tie.Need-alone-requires
-alone-requires c κs = search needs
-
-add-one : tie.Need-add-one
-add-one c = search needs
-
 returns-4 : tie.Need-returns-4
 returns-4 c = leads-on _ _ (c .before .before .before .before .before .together .ensures .0) (c .before .before .before .before .alone .ensures .0)
-
-alone-requires-2 : tie.Need-alone-requires-2
-alone-requires-2 c κs = search needs
-
-add-more : tie.Need-add-more
-add-more c = search needs
-
-add-two : tie.Need-add-two
-add-two c = search needs
 
 returns-5 : tie.Need-returns-5
 returns-5 c =
@@ -53,9 +23,6 @@ returns-5 c =
     let first = c .before .before .before .before .before .before .before .before .before .alone .ensures in
     let second = c .before .before .before .before .alone2 .ensures in
     leads-over _ _ (leads-on _ _ (lanes .0) (first .0)) (omega arith) (leads-on _ _ (lanes .1) (second .0))
-
-add-three : tie.Need-add-three
-add-three c = search needs
 
 returns-6 : tie.Need-returns-6
 returns-6 c =
@@ -72,19 +39,19 @@ in-lanes-spec =
     tie.close
     (tie.spec
     returns
-    place-near-requires
-    add-place-near
-    place-near-requires-2
-    sub-last
+    (λ c κs. search needs)
+    (λ c. search needs)
+    (λ c κs. search needs)
+    (λ c. search needs)
     returns-2
     returns-3
-    together-requires
-    alone-requires
-    add-one
+    (λ c κs. search needs)
+    (λ c κs. search needs)
+    (λ c. search needs)
     returns-4
-    alone-requires-2
-    add-more
-    add-two
+    (λ c κs. search needs)
+    (λ c. search needs)
+    (λ c. search needs)
     returns-5
-    add-three
+    (λ c. search needs)
     returns-6)

@@ -17,12 +17,6 @@ places : (c : tie.After-known-told)
     × (c .before .found .given .0 .1 .1 .0 ≤ length (c .before .before .before .before .before .args .stream .now))
 places c = step-on _ _ _ (sym (c .before .before .before .step-at .ensures) ∙ ap toldStep (c .before .found .given .1))
 
-step-at-requires : tie.Need-step-at-requires
-step-at-requires c κs = search needs
-
-enum-known-found : tie.Need-enum-known-found
-enum-known-found c = search needs
-
 add-body : tie.Need-add-body
 add-body c = let m = places c in omega arith
 
@@ -37,21 +31,6 @@ part-result-end c = let m = places c in omega arith
 
 enum-told : tie.Need-enum-told
 enum-told c = search needs
-
-slice-aggregate-result : tie.Need-slice-aggregate-result
-slice-aggregate-result c = search needs
-
-enum-told-2 : tie.Need-enum-told-2
-enum-told-2 c = search needs
-
-slice-aggregate-result-2 : tie.Need-slice-aggregate-result-2
-slice-aggregate-result-2 c = search needs
-
-enum-told-3 : tie.Need-enum-told-3
-enum-told-3 c = search needs
-
-slice-aggregate-result-3 : tie.Need-slice-aggregate-result-3
-slice-aggregate-result-3 c = search needs
 
 returns : tie.Need-returns
 returns c =
@@ -79,18 +58,18 @@ pub payload-at-spec : {M : Type 1} → statement M
 payload-at-spec =
     tie.close
     (tie.spec
-    step-at-requires
-    enum-known-found
+    (λ c κs. search needs)
+    (λ c. search needs)
     add-body
     sub-result
     part-result-start
     part-result-end
     enum-told
-    slice-aggregate-result
-    enum-told-2
-    slice-aggregate-result-2
-    enum-told-3
-    slice-aggregate-result-3
+    (λ c. search needs)
+    (λ c. search needs)
+    (λ c. search needs)
+    (λ c. search needs)
+    (λ c. search needs)
     returns
     returns-2
     returns-3

@@ -13,26 +13,8 @@ returns c = sym (step-past _ _ (c .if2 .taken))
 returns-2 : tie.Need-returns-2
 returns-2 c = sym (step-end _ _ (c .if2 .left) (c .before .if1 .taken))
 
-shared-slice-read-cid : tie.Need-shared-slice-read-cid
-shared-slice-read-cid c = search needs
-
-add-body : tie.Need-add-body
-add-body c = search needs
-
-payload-len-requires : tie.Need-payload-len-requires
-payload-len-requires c κs = search needs
-
 enum-told : tie.Need-enum-told
 enum-told c = search needs
-
-enum-known-length : tie.Need-enum-known-length
-enum-known-length c = search needs
-
-sub-if3 : tie.Need-sub-if3
-sub-if3 c = search needs
-
-add-t21 : tie.Need-add-t21
-add-t21 c = search needs
 
 returns-3 : tie.Need-returns-3
 returns-3 c = sym (step-unknown _ _ (omega arith) (sym (c .before .before .payload-len .ensures) ∙ ap toldLength (c .enum-told .given .1)))
@@ -49,13 +31,13 @@ step-at-spec =
     (tie.spec
     returns
     returns-2
-    shared-slice-read-cid
-    add-body
-    payload-len-requires
+    (λ c. search needs)
+    (λ c. search needs)
+    (λ c κs. search needs)
     enum-told
-    enum-known-length
-    sub-if3
-    add-t21
+    (λ c. search needs)
+    (λ c. search needs)
+    (λ c. search needs)
     returns-3
     returns-4
     returns-5)

@@ -16,12 +16,6 @@ use Rattle.walk.proofs.whole.walk.Tie as tie
 fits : (L : Rule) (s : List ℕ) {a : Answer Ending} {n : ℕ} → (a, n) ≡ tally (walkOf L s) → n ≤ length s
 fits L s e = omega (arith, ap (λ (x : Answer Ending × ℕ). x .1) e, count-fits L s)
 
-in-lanes-requires : tie.Need-in-lanes-requires
-in-lanes-requires c κs = search needs
-
-walk-from-requires : tie.Need-walk-from-requires
-walk-from-requires c κs = search needs
-
 add-count : tie.Need-add-count
 add-count c =
     let whole = leads-from-start _ _ (c .before .before .before .in-lanes .ensures) (c .before .before .walk-from .ensures) in
@@ -31,4 +25,4 @@ returns : tie.Need-returns
 returns c = leads-from-start _ _ (c .before .before .before .in-lanes .ensures) (c .before .before .walk-from .ensures)
 
 pub walk-spec : {M : Type 1} → statement M
-walk-spec = tie.close (tie.spec in-lanes-requires walk-from-requires add-count returns)
+walk-spec = tie.close (tie.spec (λ c κs. search needs) (λ c κs. search needs) add-count returns)

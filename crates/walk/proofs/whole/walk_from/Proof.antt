@@ -21,12 +21,6 @@ abbrev μ-loop : tie.MeasureT-loop
 loop-holds : tie.Need-loop-holds Inv-loop μ-loop
 loop-holds c = leads-nowhere _ _ _
 
-step-at-requires : tie.Need-step-at-requires Inv-loop μ-loop
-step-at-requires c κs = search needs
-
-enum-known-found : tie.Need-enum-known-found Inv-loop μ-loop
-enum-known-found c = search needs
-
 add-count : tie.Need-add-count Inv-loop μ-loop
 add-count c = let m = step-on _ _ _ (sym (c .before .before .before .step-at .ensures) ∙ ap toldStep (c .before .found .given .1)) in omega arith
 
@@ -40,12 +34,6 @@ loop-again c =
 
 enum-told : tie.Need-enum-told Inv-loop μ-loop
 enum-told c = search needs
-
-enum-known-found-2 : tie.Need-enum-known-found-2 Inv-loop μ-loop
-enum-known-found-2 c = search needs
-
-enum-known-found-3 : tie.Need-enum-known-found-3 Inv-loop μ-loop
-enum-known-found-3 c = search needs
 
 returns : tie.Need-returns Inv-loop μ-loop
 returns c = leads-to-end _ _ _ (c .before .before .before .loop .inv) (sym (c .before .before .step-at .ensures) ∙ ap toldStep (c .enum-told .given .1)) refl
@@ -63,14 +51,14 @@ walk-from-spec =
     Inv-loop
     μ-loop
     loop-holds
-    step-at-requires
-    enum-known-found
+    (λ c κs. search needs)
+    (λ c. search needs)
     add-count
     loop-less
     loop-again
     enum-told
-    enum-known-found-2
-    enum-known-found-3
+    (λ c. search needs)
+    (λ c. search needs)
     returns
     returns-2
     returns-3)

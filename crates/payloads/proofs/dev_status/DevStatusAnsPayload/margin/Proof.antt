@@ -29,12 +29,6 @@ high-half n h = simp (le-ltb n 32 h)
 abbrev byte : tie.After-struct-known → ℕ
 byte c = c .before .args .self .1
 
-cast-result : tie.Need-cast-result
-cast-result c = search needs
-
-cast-result-2 : tie.Need-cast-result-2
-cast-result-2 c = search needs
-
 sub-result : tie.Need-sub-result
 sub-result c =
     let n = byte (c .before) % 64 in
@@ -55,4 +49,4 @@ returns-2 c =
     ∙ ap (signed 6) (low 6 (byte (c .before)))
 
 pub margin-spec : {M : Type 1} → statement M
-margin-spec = tie.close (tie.spec cast-result cast-result-2 sub-result returns returns-2)
+margin-spec = tie.close (tie.spec (λ c. search needs) (λ c. search needs) sub-result returns returns-2)

@@ -18,18 +18,6 @@ exact : Each Exact 16
 unfolding Exact div ofInt ofBits
 exact = (refl, (refl, (refl, (refl, (refl, (refl, (refl, (refl, (refl, (refl, (refl, (refl, (refl, (refl, (refl, (refl, tt))))))))))))))))
 
-max-duty-cycle-raw-requires : tie.Need-max-duty-cycle-raw-requires
-max-duty-cycle-raw-requires c κs = search needs
-
-cast-divisor : tie.Need-cast-divisor
-cast-divisor c = search needs
-
-shl-divisor : tie.Need-shl-divisor
-shl-divisor c = search needs
-
-int-to-float-result : tie.Need-int-to-float-result
-int-to-float-result c = search needs
-
 returns : tie.Need-returns
 unfolding Exact
 returns c = rw (c .before .max-duty-cycle-raw .ensures) (each Exact 16 _ exact (omega arith))
@@ -37,4 +25,4 @@ returns c = rw (c .before .max-duty-cycle-raw .ensures) (each Exact 16 _ exact (
 pub max-duty-cycle-spec : {M : Type 1} → statement M
 max-duty-cycle-spec =
     tie.close
-    (tie.spec max-duty-cycle-raw-requires cast-divisor shl-divisor int-to-float-result returns)
+    (tie.spec (λ c κs. search needs) (λ c. search needs) (λ c. search needs) (λ c. search needs) returns)

@@ -5,15 +5,9 @@ use borrow.Author.Needs.{needs}
 use Rattle.payloads.proofs.link_check.LinkCheckAnsPayload.from.Statement.{statement}
 use Rattle.payloads.proofs.link_check.LinkCheckAnsPayload.from.Tie as tie
 
-array-read-t5 : tie.Need-array-read-t5
-array-read-t5 c = search needs
-
-array-read-t8 : tie.Need-array-read-t8
-array-read-t8 c = search needs
-
 returns : tie.Need-returns
 unfolding tabulate
 returns c = elements 2 _ (search needs)
 
 pub from-spec : {M : Type 1} → statement M
-from-spec = tie.close (tie.spec array-read-t5 array-read-t8 returns)
+from-spec = tie.close (tie.spec (λ c. search needs) (λ c. search needs) returns)
