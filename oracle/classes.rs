@@ -123,7 +123,7 @@ pub const ALL: &[Class] = &[
     Class {
         number: TYPED_RECORD,
         what: "a record of UplinkMacCommandCreator or DownlinkMacCommandCreator over a default image. The Rust takes the type's CID; the image's first byte",
-        entry: entries::TYPED_CREATOR,
+        entry: entries::CREATOR,
         smallest: &[1],
     },
 ];

@@ -2,10 +2,8 @@
 //!
 //! Input: how it starts (0 `new`, 1 `default`), then at most four calls, each a setter's number, counted from 1 in the order of
 //! the original's text, and its argument at the end of four bytes (a number high byte first, a mask or a frequency as its bytes stand).
-//! Answer: each call's verdict; `cid` and `len`; the image that `build` gives.
-//!
-//! The same input for the creator as its enum holds it. Answer: the enum's `cid`, `len` and image; then as a record, the CID, the
-//! payload's length and the payload, of the creator and of the enum.
+//! Answer: each call's verdict; `cid` and `len`; the image that `build` gives; the same three as the creator's enum has them; then as a
+//! record, the CID, the payload's length and the payload, of the creator and of the enum.
 
 use crate::case::{Case, Judged, Original};
 use crate::classes;
@@ -54,7 +52,6 @@ pub fn script(start: u8, calls: &[Call]) -> Vec<u8> {
 
 pub struct CreatorEntry {
     pub judge: fn(&[u8]) -> Judged,
-    pub judge_typed: fn(&[u8]) -> Judged,
     /// What each setter takes, in order.
     pub setters: &'static [Argument],
     /// The creator with this payload, where its setters can make it, as a record by itself and as its enum's.
@@ -294,24 +291,21 @@ fn run<C: Creator>(input: &[u8]) -> Result<(C, Vec<u8>), String> {
     Ok((creator, verdicts))
 }
 
-fn judge<C: Creator>(input: &[u8]) -> Judged {
-    let (creator, mut answer) = run::<C>(input)?;
-    answer.extend([creator.type_cid(), creator.image_len() as u8]);
-    answer.extend(creator.image());
-    Case::agreed(answer)
-}
-
-fn as_record(record: &dyn SerializableMacCommand) -> Vec<u8> {
+pub fn as_record(record: &dyn SerializableMacCommand) -> Vec<u8> {
     [&[record.cid(), record.payload_len() as u8], record.payload_bytes()].concat()
 }
 
-fn judge_typed<C: Creator>(input: &[u8]) -> Judged {
-    let (creator, _) = run::<C>(input)?;
+fn judge<C: Creator>(input: &[u8]) -> Judged {
+    let (creator, mut front) = run::<C>(input)?;
+    front.extend([creator.type_cid(), creator.image_len() as u8]);
+    front.extend(creator.image());
     let own = as_record(&creator);
     let first = creator.image()[0];
     let typed = creator.typed();
+    front.extend([typed.cid(), typed.len() as u8]);
+    front.extend(typed.build());
+    front.extend(own);
     let enums = as_record(&typed);
-    let front = [&[typed.cid(), typed.len() as u8], typed.build(), &own].concat();
     let said = [&front[..], &enums].concat();
     if enums[0] == first {
         return Case::agreed(said);
@@ -344,7 +338,6 @@ fn typed_record<C: Creator>(how: u8, payload: &[u8]) -> Option<Box<dyn Serializa
 const fn entry<C: Creator>() -> CreatorEntry {
     CreatorEntry {
         judge: judge::<C>,
-        judge_typed: judge_typed::<C>,
         setters: C::SETTERS,
         record: record::<C>,
         typed_record: typed_record::<C>,

@@ -6,9 +6,10 @@ use crate::batch::Batch;
 use crate::build::{run, MOST_RECORDS};
 use crate::case::two;
 use crate::creators::{self, script, Argument, Call, DEFAULT, MOST_CALLS, NEW};
-use crate::entries::{self, of};
+use crate::entries::{self, calls_of, of, record_of, walk_of};
 use crate::examples::indexed;
 use crate::table::{self, Command, Direction, COMMANDS, DIRECTIONS};
+use crate::walk::to_beyond_the_end;
 
 const BACKGROUNDS: [u8; 4] = [0x00, 0xFF, 0x5A, 0x03];
 
@@ -156,13 +157,6 @@ const EVERY_BYTE: [u8; 256] = {
     bytes
 };
 
-fn walk_of(direction: Direction) -> u8 {
-    match direction {
-        Direction::Down => entries::WALK_DOWN,
-        Direction::Up => entries::WALK_UP,
-    }
-}
-
 /// A whole command, its payload bytes filled.
 fn whole(k: Command, fill: u8) -> Vec<u8> {
     let mut bytes = vec![fill; 1 + table::len(k)];
@@ -172,10 +166,13 @@ fn whole(k: Command, fill: u8) -> Vec<u8> {
 
 fn streams(batch: &mut Batch) {
     for direction in DIRECTIONS {
-        let walk = walk_of(direction);
-        batch.ask(walk, &[]);
-        (0..=255).for_each(|byte| batch.ask(walk, &[byte]));
-        pairs(|pair| batch.ask(walk, &pair));
+        let mut ask = |stream: &[u8]| {
+            batch.ask(walk_of(direction), stream);
+            batch.ask(calls_of(direction), &to_beyond_the_end(direction, stream));
+        };
+        ask(&[]);
+        (0..=255).for_each(|byte| ask(&[byte]));
+        pairs(|pair| ask(&pair));
         // Each byte as a command cut at each place, and with bytes after it, alone and behind each command.
         let mut fronts = vec![vec![]];
         fronts.extend(direction.commands().map(|k| whole(k, 0x07)));
@@ -185,7 +182,7 @@ fn streams(batch: &mut Batch) {
                 let fills = if known { &BACKGROUNDS[..] } else { &BACKGROUNDS[3..] };
                 for fill in fills {
                     for cut in 0..=7 {
-                        batch.ask(walk, &[&front[..], &[cid], &vec![*fill; cut]].concat());
+                        ask(&[&front[..], &[cid], &vec![*fill; cut]].concat());
                     }
                 }
             }
@@ -194,9 +191,14 @@ fn streams(batch: &mut Batch) {
         for first in direction.commands() {
             for second in direction.commands() {
                 let front = [whole(first, 0x81), whole(second, 0x0D)].concat();
-                batch.ask(walk, &front);
-                (0..=255).for_each(|byte| batch.ask(walk, &[&front[..], &[byte]].concat()));
+                ask(&front);
+                (0..=255).for_each(|byte| ask(&[&front[..], &[byte]].concat()));
             }
+        }
+        // Each command as a record.
+        for k in direction.commands() {
+            batch.ask(record_of(direction), &whole(k, 0x07));
+            byte_by_byte(table::len(k), |payload| batch.ask(record_of(direction), &[&[table::cid(k)], payload].concat()));
         }
     }
 }
@@ -232,13 +234,6 @@ fn arguments(kind: Argument) -> Vec<[u8; 4]> {
     }
 }
 
-/// A few arguments of each kind, the refused ones too.
-fn few_arguments(kind: Argument) -> Vec<[u8; 4]> {
-    let all = arguments(kind);
-    let kept = [0, 1, 5, 15, 16, all.len() / 2, all.len() - 1];
-    kept.into_iter().filter(|i| *i < all.len()).map(|i| all[i]).collect()
-}
-
 /// The largest argument of a kind that is accepted, and another.
 fn prepared(kind: Argument) -> [[u8; 4]; 2] {
     match kind {
@@ -263,15 +258,13 @@ fn preparations(setters: &[Argument], tested: usize) -> Vec<Vec<Call>> {
 fn creators(batch: &mut Batch) {
     for k in 0..COMMANDS {
         let setters = creators::ALL[k].setters;
-        let (plain, typed) = (of(entries::CREATOR, k), of(entries::TYPED_CREATOR, k));
+        let creator = of(entries::CREATOR, k);
         for start in [NEW, DEFAULT] {
-            batch.ask(plain, &script(start, &[]));
-            batch.ask(typed, &script(start, &[]));
+            batch.ask(creator, &script(start, &[]));
             for (i, kind) in setters.iter().enumerate() {
                 for before in preparations(setters, i) {
                     let with = |argument: &[u8; 4]| script(start, &[&before[..], &[Call(i as u8 + 1, *argument)]].concat());
-                    arguments(*kind).iter().for_each(|a| batch.ask(plain, &with(a)));
-                    few_arguments(*kind).iter().for_each(|a| batch.ask(typed, &with(a)));
+                    arguments(*kind).iter().for_each(|a| batch.ask(creator, &with(a)));
                 }
             }
         }
@@ -286,14 +279,25 @@ fn slot(cid: u8, len: u8) -> [u8; 8] {
     [cid, len, 0x11, 0x22, 0x33, 0x44, 0x55, 0x66]
 }
 
-/// The length of a list, and its building into a buffer one short, exact and longer.
+/// The length of a list of packed records, and its building into a buffer one short, exact and longer.
 fn list(batch: &mut Batch, direction: Direction, runs: &[u8], total: usize) {
+    list_by(batch, [entries::LIST_LEN, entries::BUILD], direction, runs, total);
+}
+
+/// The same of four record structs.
+fn four(batch: &mut Batch, direction: Direction, slots: [&[u8; 8]; 4]) {
+    let runs = slots.map(|slot| run(1, slot)).concat();
+    let total = slots.iter().map(|slot| 1 + usize::from(slot[1])).sum();
+    list_by(batch, [entries::RECORDS_LEN, entries::BUILD_RECORDS], direction, &runs, total);
+}
+
+fn list_by(batch: &mut Batch, [len, build]: [u8; 2], direction: Direction, runs: &[u8], total: usize) {
     let direction = direction.number();
-    batch.ask(entries::LIST_LEN, &[&[direction], runs].concat());
+    batch.ask(len, &[&[direction], runs].concat());
     let mut rooms = vec![total, total + 1, total + 3];
     rooms.extend(total.checked_sub(1));
     for room in rooms {
-        batch.ask(entries::BUILD, &[&[direction], &two(room)[..], &[0xEE], runs].concat());
+        batch.ask(build, &[&[direction], &two(room)[..], &[0xEE], runs].concat());
     }
 }
 
@@ -303,7 +307,13 @@ fn lists(batch: &mut Batch) {
         // Each byte as a CID, with each length around the table's.
         for cid in 0..=255 {
             for len in [0, 1, 2, 3, 4, 5, 6, 7, 255] {
-                list(batch, direction, &run(1, &slot(cid, len)), 1 + usize::from(len));
+                let one = slot(cid, len);
+                list(batch, direction, &run(1, &one), 1 + usize::from(len));
+                // And at a place of four.
+                let good = slot(0x03, direction.payload_len(0x03).expect("a command") as u8);
+                let mut slots = [&good; 4];
+                slots[usize::from(cid ^ len) % 4] = &one;
+                four(batch, direction, slots);
             }
         }
         // Each pair of commands, those of the other direction too, and an unset one.
@@ -313,6 +323,7 @@ fn lists(batch: &mut Batch) {
             for second in &slots {
                 let total = 2 + usize::from(first[1]) + usize::from(second[1]);
                 list(batch, direction, &[run(1, first), run(1, second)].concat(), total);
+                four(batch, direction, [first, second, second, first]);
             }
         }
         // Lists around the longest, of each command and with a fault at either end.

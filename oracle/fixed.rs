@@ -9,10 +9,10 @@ use crate::{classes, entries, examples, exhaustive, random};
 
 const SEED: u64 = 1;
 /// How many cases of each entry and class the sample has, about.
-const WANTED: usize = 12;
+const WANTED: usize = 9;
 /// Cases that tell of more bytes are left out of the sample.
 const LONGEST: usize = 120;
-const STREAMS: usize = 500;
+const STREAMS: usize = 400;
 /// So long that the port walks it in more places than one.
 const LONG_STREAM: usize = 197;
 

@@ -8,6 +8,7 @@ mod build;
 mod case;
 mod classes;
 mod creators;
+mod direct;
 mod entries;
 mod examples;
 mod exhaustive;
@@ -35,6 +36,7 @@ const USAGE: &str = "usage: oracle COMMAND
   exhaustive         every case that can be listed
   random SEED COUNT  COUNT streams and, in proportion, every other kind of input; SEED is a decimal number
   fixed              the list that the repository keeps
+  direct             a list for the iterator and the build over record structs, called directly
   classes            the differences, each with its smallest input
 A batch goes to standard output, the number of cases of each entry and class to standard error.";
 
@@ -64,6 +66,9 @@ fn main() {
             _ => usage(),
         },
         ["fixed"] => every_class_reached(&print(&fixed::list)),
+        ["direct"] => {
+            print(&direct::list);
+        }
         ["classes"] => classes::print(),
         _ => usage(),
     }

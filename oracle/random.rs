@@ -4,10 +4,11 @@ use crate::batch::Batch;
 use crate::build::run;
 use crate::case::two;
 use crate::creators::{self, script, Argument, Call, DEFAULT, MOST_CALLS, NEW};
-use crate::entries::{self, of};
+use crate::entries::{self, calls_of, of, record_of, walk_of};
 use crate::examples::indexed;
 use crate::rng::Rng;
 use crate::table::{self, Direction, COMMANDS, DIRECTIONS};
+use crate::walk::to_beyond_the_end;
 
 /// The given number of streams at least, and in proportion every other kind of input.
 pub fn streams_and_others(batch: &mut Batch, seed: u64, count: usize) {
@@ -64,10 +65,11 @@ fn commands(rng: &mut Rng, direction: Direction, room: usize, payloads: Payloads
     }
 }
 
-fn walk_of(direction: Direction) -> u8 {
-    match direction {
-        Direction::Down => entries::WALK_DOWN,
-        Direction::Up => entries::WALK_UP,
+/// The walk over a stream, and now and then the iterator over one that is not long.
+fn stream(batch: &mut Batch, rng: &mut Rng, direction: Direction, stream: &[u8]) {
+    batch.ask(walk_of(direction), stream);
+    if stream.len() < 100 && rng.once_in(4) {
+        batch.ask(calls_of(direction), &to_beyond_the_end(direction, stream));
     }
 }
 
@@ -91,30 +93,29 @@ pub fn long_streams(batch: &mut Batch, rng: &mut Rng, length: usize) {
 /// Streams of one kind; how many.
 fn streams(batch: &mut Batch, rng: &mut Rng) -> usize {
     let direction = rng.pick(&DIRECTIONS);
-    let walk = walk_of(direction);
     let length = room(rng);
-    let mut stream = commands(rng, direction, length, Payloads::Any);
+    let mut bytes = commands(rng, direction, length, Payloads::Any);
     match rng.below(8) {
         // As it is.
-        0 | 1 => batch.ask(walk, &stream),
+        0 | 1 => stream(batch, rng, direction, &bytes),
         // Cut at every place of a short one, at one of a long one.
-        2 | 3 if stream.len() < 60 => {
-            for cut in 0..=stream.len() {
-                batch.ask(walk, &stream[..cut]);
+        2 | 3 if bytes.len() < 60 => {
+            for cut in 0..=bytes.len() {
+                stream(batch, rng, direction, &bytes[..cut]);
             }
-            return stream.len() + 1;
+            return bytes.len() + 1;
         }
         2 | 3 => {
-            let cut = rng.below(stream.len());
-            batch.ask(walk, &stream[..cut]);
+            let cut = rng.below(bytes.len());
+            stream(batch, rng, direction, &bytes[..cut]);
         }
         // One byte damaged.
         4 | 5 => {
-            if !stream.is_empty() {
-                let at = rng.below(stream.len());
-                stream[at] = rng.byte();
+            if !bytes.is_empty() {
+                let at = rng.below(bytes.len());
+                bytes[at] = rng.byte();
             }
-            batch.ask(walk, &stream);
+            stream(batch, rng, direction, &bytes);
         }
         // Two joined, the first of either direction and perhaps cut.
         6 => {
@@ -124,14 +125,14 @@ fn streams(batch: &mut Batch, rng: &mut Rng) -> usize {
             if rng.once_in(2) {
                 front.truncate(rng.below(front.len() + 1));
             }
-            front.extend(&stream);
-            batch.ask(walk, &front);
+            front.extend(&bytes);
+            stream(batch, rng, direction, &front);
         }
         // Any bytes, small ones more often: those are the CIDs.
         _ => {
             let length = room(rng);
             let bytes: Vec<u8> = (0..length).map(|_| if rng.once_in(4) { rng.byte() } else { rng.byte() % 16 }).collect();
-            batch.ask(walk, &bytes);
+            stream(batch, rng, direction, &bytes);
         }
     }
     1
@@ -155,11 +156,13 @@ fn slot(rng: &mut Rng, direction: Direction, wrong: bool) -> [u8; 8] {
     slot
 }
 
-/// A list of at most 64 records: its length, and its building into buffers one short, exact and longer.
+/// A list of at most 64 records, or of four record structs: its length, and its building into buffers one short, exact and longer.
 fn list(batch: &mut Batch, rng: &mut Rng) {
     let direction = rng.pick(&DIRECTIONS);
     let most = if rng.once_in(4) { 65 } else { 9 };
-    let records = rng.below(most);
+    let structs = rng.once_in(3);
+    let records = if structs { 4 } else { rng.below(most) };
+    let [len, build] = if structs { [entries::RECORDS_LEN, entries::BUILD_RECORDS] } else { [entries::LIST_LEN, entries::BUILD] };
     let faults = rng.once_in(3);
     let mut runs = Vec::new();
     let mut total = 0;
@@ -170,11 +173,11 @@ fn list(batch: &mut Batch, rng: &mut Rng) {
         total += 1 + usize::from(slot[1]);
     }
     let head = direction.number();
-    batch.ask(entries::LIST_LEN, &[&[head], &runs[..]].concat());
+    batch.ask(len, &[&[head], &runs[..]].concat());
     let longer = total + 1 + rng.below(9);
     let rooms = [total.checked_sub(1), Some(total), Some(longer)];
     for room in rooms.into_iter().flatten() {
-        batch.ask(entries::BUILD, &[&[head], &two(room)[..], &[rng.byte()], &runs].concat());
+        batch.ask(build, &[&[head], &two(room)[..], &[rng.byte()], &runs].concat());
     }
 }
 
@@ -188,6 +191,9 @@ fn small(batch: &mut Batch, rng: &mut Rng) {
     let length = if rng.once_in(8) { rng.below(8) } else { table::len(k) };
     let payload = rng.bytes(length);
     batch.ask(of(entries::PAYLOAD, k), &payload);
+    if length == table::len(k) {
+        batch.ask(record_of(table::direction(k)), &[&[table::cid(k)], &payload[..]].concat());
+    }
     creator(batch, rng);
 }
 
@@ -224,9 +230,7 @@ fn creator(batch: &mut Batch, rng: &mut Rng) {
             calls.push(Call(i as u8 + 1, argument(rng, setters[i])));
         }
     }
-    let input = script(rng.pick(&[NEW, NEW, DEFAULT]), &calls);
-    batch.ask(of(entries::CREATOR, k), &input);
-    batch.ask(of(entries::TYPED_CREATOR, k), &input);
+    batch.ask(of(entries::CREATOR, k), &script(rng.pick(&[NEW, NEW, DEFAULT]), &calls));
 }
 
 fn argument(rng: &mut Rng, kind: Argument) -> [u8; 4] {

@@ -3,10 +3,16 @@
 //! Input: the stream. Answer: the number of commands (two bytes), how the walk ended (0 at the end, 1 at an unknown byte, 2 at a
 //! payload cut short) and where (two bytes); then for each command its offset (two bytes), CID, `uplink`, `len` and `bytes`.
 //!
+//! An iterator's calls. Input: how many (two bytes), and the stream. Answer, for each call: 3 and a command's CID, length and the index
+//! behind it (two bytes); 0 and four zeros at the end; 1 or 2, two zeros and the offset (two bytes) at a stop.
+//!
 //! The original's iterator says None for every ending. Which it is follows from what is left of the stream.
+//!
+//! A command as a record. Input: a stream that begins with the command. Answer: CID, the payload's length and the payload.
 
 use crate::case::{caught, two, Case, Judged, Original};
 use crate::classes;
+use crate::creators::as_record;
 use crate::maccommands::{
     parse_downlink_mac_commands, parse_uplink_mac_commands, DownlinkMacCommand, MacCommandIterator, SerializableMacCommand,
     UplinkMacCommand,
@@ -81,27 +87,112 @@ fn told(count: usize, reason: u8, at: usize) -> Vec<u8> {
     [&two(count)[..], &[reason], &two(at)].concat()
 }
 
-fn ended(direction: Direction, stream: &[u8], at: usize, count: usize, list: &[u8]) -> Judged {
+/// What the port says where the iterator's `next` gives None at an offset: the reason, and the class where it is one.
+fn none_at(direction: Direction, stream: &[u8], at: usize) -> Result<(u8, Option<u8>), String> {
     let rest = &stream[at..];
-    if rest.is_empty() {
-        return Case::agreed([&told(count, 0, at), list].concat());
+    match rest.first().map(|cid| direction.payload_len(*cid)) {
+        None => Ok((0, None)),
+        Some(None) => Ok((1, Some(classes::UNKNOWN_BYTE))),
+        Some(Some(len)) if rest.len() < len => Ok((2, Some(classes::CUT_SHORT))),
+        Some(Some(_)) => Err("None at a command that is there".to_string()),
     }
-    let (reason, class) = match direction.payload_len(rest[0]) {
-        None => (1, classes::UNKNOWN_BYTE),
-        Some(len) if rest.len() < len => (2, classes::CUT_SHORT),
-        Some(_) => return Err("None at a command that is there".to_string()),
-    };
+}
+
+/// A panic of `next` at an offset is of the class that lists it.
+fn panic_at(direction: Direction, stream: &[u8], at: usize) -> Result<(), String> {
+    let rest = &stream[at..];
+    match rest.first().and_then(|cid| direction.payload_len(*cid)) {
+        Some(len) if len == rest.len() => Ok(()),
+        _ => Err("a panic other than at a sized command with exactly its payload length of bytes left".to_string()),
+    }
+}
+
+fn ended(direction: Direction, stream: &[u8], at: usize, count: usize, list: &[u8]) -> Judged {
+    let (reason, class) = none_at(direction, stream, at)?;
     let answer = [&told(count, reason, at), list].concat();
-    Ok(Case { answer, original: Original::Said(class, told(count, 0, at)) })
+    match class {
+        None => Case::agreed(answer),
+        Some(class) => Ok(Case { answer, original: Original::Said(class, told(count, 0, at)) }),
+    }
 }
 
 fn stopped_by_panic(direction: Direction, stream: &[u8], at: usize, count: usize, list: &[u8]) -> Judged {
-    let rest = &stream[at..];
-    match rest.first().and_then(|cid| direction.payload_len(*cid)) {
-        Some(len) if len == rest.len() => {
-            let answer = [&told(count, 2, at), list].concat();
-            Ok(Case { answer, original: Original::Panicked(classes::CUT_EXACT) })
-        }
-        _ => Err("a panic other than at a sized command with exactly its payload length of bytes left".to_string()),
+    panic_at(direction, stream, at)?;
+    let answer = [&told(count, 2, at), list].concat();
+    Ok(Case { answer, original: Original::Panicked(classes::CUT_EXACT) })
+}
+
+pub fn calls_down(input: &[u8]) -> Judged {
+    calls(Direction::Down, input, parse_downlink_mac_commands(&input[2..]))
+}
+
+pub fn calls_up(input: &[u8]) -> Judged {
+    calls(Direction::Up, input, parse_uplink_mac_commands(&input[2..]))
+}
+
+/// A call that hands out no command: at the end, or at a stop.
+fn told_stop(reason: u8, at: usize) -> Vec<u8> {
+    match reason {
+        0 => vec![0; 5],
+        _ => [&[reason, 0, 0][..], &two(at)].concat(),
     }
+}
+
+fn calls<'a, C: Command>(direction: Direction, input: &[u8], mut commands: MacCommandIterator<'a, C>) -> Judged
+where
+    MacCommandIterator<'a, C>: Iterator<Item = C>,
+{
+    let count = usize::from(u16::from_be_bytes([input[0], input[1]]));
+    let stream = &input[2..];
+    let (mut answer, mut said, mut class) = (Vec::new(), Vec::new(), None);
+    for call in 0..count {
+        let at = commands.index;
+        match caught(|| commands.next()) {
+            Some(Some(command)) => {
+                let handed = [&[3, command.cid(), command.len() as u8][..], &two(commands.index)].concat();
+                answer.extend(&handed);
+                said.extend(&handed);
+            }
+            Some(None) if commands.index != at => return Err("the iterator moves on after None".to_string()),
+            Some(None) => {
+                let (reason, its_class) = none_at(direction, stream, at)?;
+                answer.extend(told_stop(reason, at));
+                said.extend(told_stop(0, at));
+                class = its_class;
+            }
+            // The original has moved past the stream: it can't be asked again.
+            None => {
+                panic_at(direction, stream, at)?;
+                (call..count).for_each(|_| answer.extend(told_stop(2, at)));
+                return Ok(Case { answer, original: Original::Panicked(classes::CUT_EXACT) });
+            }
+        }
+    }
+    match class {
+        None => Case::agreed(answer),
+        Some(class) => Ok(Case { answer, original: Original::Said(class, said) }),
+    }
+}
+
+/// The input of an iterator's calls on a stream, as many as hand out its commands and three beyond.
+pub fn to_beyond_the_end(direction: Direction, stream: &[u8]) -> Vec<u8> {
+    let (mut at, mut count) = (0, 0);
+    while let Some(len) = stream.get(at).and_then(|cid| direction.payload_len(*cid)) {
+        if at + len >= stream.len() {
+            break;
+        }
+        at += 1 + len;
+        count += 1;
+    }
+    [&two(count + 3), stream].concat()
+}
+
+pub fn record_down(input: &[u8]) -> Judged {
+    let command = parse_downlink_mac_commands(input).next().ok_or("no command")?;
+    Case::agreed(as_record(&command))
+}
+
+pub fn record_up(input: &[u8]) -> Judged {
+    let command = parse_uplink_mac_commands(input).next().ok_or("no command")?;
+    Case::agreed(as_record(&command))
 }

@@ -1,11 +1,9 @@
-// The entries from 40 and from 60 on, every second: the creators of the commands that are sent down, and those in their enum.
-use crate::holding::hold;
-use crate::holding::hold_verdict;
-use crate::image::hold_accepted;
-use crate::image::hold_down;
-use crate::image::hold_image;
+// The entries from 40 on, every second: the creators of the commands that are sent down, by themselves, in their enum, and as records.
+use crate::answer::Answer;
+use crate::image::accepted;
+use crate::image::told_down;
+use crate::image::verdicts;
 use crate::reading::call_at;
-use crate::reading::calls;
 use crate::reading::is_default;
 use creators::DevStatusReqCreator;
 use creators::DeviceTimeAnsCreator;
@@ -22,6 +20,7 @@ use creators::RXTimingSetupReqCreator;
 use creators::RXTimingSetupReqCreatorAnswer;
 use creators::TXParamSetupReqCreator;
 use creators::TXParamSetupReqCreatorAnswer;
+use table::Verdict;
 
 // ---- LinkCheckAns.
 
@@ -35,7 +34,7 @@ fn link_check_ans_set(c: LinkCheckAnsCreator, input: &[u8], at: usize) -> LinkCh
     }
 }
 
-fn link_check_ans(typed: bool, input: &[u8], wanted: &[u8]) -> usize {
+fn link_check_ans(input: &[u8]) -> Answer {
     let c = if is_default(input) {
         LinkCheckAnsCreator::default()
     } else {
@@ -45,84 +44,59 @@ fn link_check_ans(typed: bool, input: &[u8], wanted: &[u8]) -> usize {
     let c = link_check_ans_set(c, input, 6);
     let c = link_check_ans_set(c, input, 11);
     let c = link_check_ans_set(c, input, 16);
-    if typed {
-        hold_down(wanted, DownlinkMacCommandCreator::from_link_check_ans(c))
-    } else {
-        let image = c.build();
-        hold_image(
-            wanted,
-            hold_accepted(wanted, calls(input)),
-            c.cid(),
-            c.len(),
-            &image,
-        )
-    }
+    let image = c.build();
+    let told = accepted(input).image(c.cid(), c.len(), &image);
+    told_down(told, DownlinkMacCommandCreator::from_link_check_ans(c))
 }
 
 // ---- LinkADRReq.
 
-// The creator behind a call, and the place behind the call's verdict.
-struct LinkADRReqMade {
-    creator: LinkADRReqCreator,
-    at: usize,
-}
-
-fn link_adr_req_checked(
-    answer: LinkADRReqCreatorAnswer,
-    wanted: &[u8],
-    at: usize,
-) -> LinkADRReqMade {
-    let verdict = answer.verdict;
-    let creator = answer.creator;
-    LinkADRReqMade {
+fn link_adr_req_taken(creator: LinkADRReqCreator) -> LinkADRReqCreatorAnswer {
+    LinkADRReqCreatorAnswer {
+        verdict: Verdict::Accepted,
         creator,
-        at: hold_verdict(wanted, at, verdict),
     }
 }
 
-fn link_adr_req_call(
-    from: LinkADRReqMade,
-    input: &[u8],
-    place: usize,
-    wanted: &[u8],
-) -> LinkADRReqMade {
-    let call = call_at(input, place);
-    let c = from.creator;
-    let at = from.at;
+fn link_adr_req_set(c: LinkADRReqCreator, input: &[u8], at: usize) -> LinkADRReqCreatorAnswer {
+    let call = call_at(input, at);
     let setter = call.setter;
     match setter {
-        1 => link_adr_req_checked(c.set_data_rate(call.byte()), wanted, at),
-        2 => link_adr_req_checked(c.set_tx_power(call.byte()), wanted, at),
-        3 => LinkADRReqMade {
-            creator: c.set_channel_mask(call.mask()),
-            at: hold(wanted, at, 0),
-        },
-        4 => LinkADRReqMade {
-            creator: c.set_redundancy(call.redundancy()),
-            at: hold(wanted, at, 0),
-        },
-        _ => from,
+        1 => c.set_data_rate(call.byte()),
+        2 => c.set_tx_power(call.byte()),
+        3 => link_adr_req_taken(c.set_channel_mask(call.mask())),
+        4 => link_adr_req_taken(c.set_redundancy(call.redundancy())),
+        _ => link_adr_req_taken(c),
     }
 }
 
-fn link_adr_req(typed: bool, input: &[u8], wanted: &[u8]) -> usize {
-    let creator = if is_default(input) {
+fn link_adr_req(input: &[u8]) -> Answer {
+    let c = if is_default(input) {
         LinkADRReqCreator::default()
     } else {
         LinkADRReqCreator::new()
     };
-    let made = LinkADRReqMade { creator, at: 0 };
-    let made = link_adr_req_call(made, input, 1, wanted);
-    let made = link_adr_req_call(made, input, 6, wanted);
-    let made = link_adr_req_call(made, input, 11, wanted);
-    let made = link_adr_req_call(made, input, 16, wanted);
-    let c = made.creator;
-    if typed {
-        hold_down(wanted, DownlinkMacCommandCreator::from_link_adr_req(c))
-    } else {
-        let image = c.build();
-        hold_image(wanted, made.at, c.cid(), c.len(), &image)
-    }
+    let first = link_adr_req_set(c, input, 1);
+    let first_verdict = first.verdict;
+    let c = first.creator;
+    let second = link_adr_req_set(c, input, 6);
+    let second_verdict = second.verdict;
+    let c = second.creator;
+    let third = link_adr_req_set(c, input, 11);
+    let third_verdict = third.verdict;
+    let c = third.creator;
+    let fourth = link_adr_req_set(c, input, 16);
+    let fourth_verdict = fourth.verdict;
+    let c = fourth.creator;
+    let image = c.build();
+    let told = verdicts(
+        input,
+        first_verdict,
+        second_verdict,
+        third_verdict,
+        fourth_verdict,
+    ).image(c.cid(), c.len(), &image);
+    told_down(told, DownlinkMacCommandCreator::from_link_adr_req(c))
 }
 
 // ---- DutyCycleReq.
@@ -136,7 +110,7 @@ fn duty_cycle_req_set(c: DutyCycleReqCreator, input: &[u8], at: usize) -> DutyCy
     }
 }
 
-fn duty_cycle_req(typed: bool, input: &[u8], wanted: &[u8]) -> usize {
+fn duty_cycle_req(input: &[u8]) -> Answer {
     let c = if is_default(input) {
         DutyCycleReqCreator::default()
     } else {
@@ -146,18 +120,9 @@ fn duty_cycle_req(typed: bool, input: &[u8], wanted: &[u8]) -> usize {
     let c = duty_cycle_req_set(c, input, 6);
     let c = duty_cycle_req_set(c, input, 11);
     let c = duty_cycle_req_set(c, input, 16);
-    if typed {
-        hold_down(wanted, DownlinkMacCommandCreator::from_duty_cycle_req(c))
-    } else {
-        let image = c.build();
-        hold_image(
-            wanted,
-            hold_accepted(wanted, calls(input)),
-            c.cid(),
-            c.len(),
-            &image,
-        )
-    }
+    let image = c.build();
+    let told = accepted(input).image(c.cid(), c.len(), &image);
+    told_down(told, DownlinkMacCommandCreator::from_duty_cycle_req(c))
 }
 
 // ---- RXParamSetupReq.
@@ -176,7 +141,7 @@ fn rx_param_setup_req_set(
     }
 }
 
-fn rx_param_setup_req(typed: bool, input: &[u8], wanted: &[u8]) -> usize {
+fn rx_param_setup_req(input: &[u8]) -> Answer {
     let c = if is_default(input) {
         RXParamSetupReqCreator::default()
     } else {
@@ -186,37 +151,22 @@ fn rx_param_setup_req(typed: bool, input: &[u8], wanted: &[u8]) -> usize {
     let c = rx_param_setup_req_set(c, input, 6);
     let c = rx_param_setup_req_set(c, input, 11);
     let c = rx_param_setup_req_set(c, input, 16);
-    if typed {
-        hold_down(
-            wanted,
-            DownlinkMacCommandCreator::from_rx_param_setup_req(c),
-        )
-    } else {
-        let image = c.build();
-        hold_image(
-            wanted,
-            hold_accepted(wanted, calls(input)),
-            c.cid(),
-            c.len(),
-            &image,
-        )
-    }
+    let image = c.build();
+    let told = accepted(input).image(c.cid(), c.len(), &image);
+    told_down(told, DownlinkMacCommandCreator::from_rx_param_setup_req(c))
 }
 
 // ---- DevStatusReq.
 
-fn dev_status_req(typed: bool, input: &[u8], wanted: &[u8]) -> usize {
+fn dev_status_req(input: &[u8]) -> Answer {
     let c = if is_default(input) {
         DevStatusReqCreator::default()
     } else {
         DevStatusReqCreator::new()
     };
-    if typed {
-        hold_down(wanted, DownlinkMacCommandCreator::from_dev_status_req(c))
-    } else {
-        let image = c.build();
-        hold_image(wanted, 0, c.cid(), c.len(), &image)
-    }
+    let image = c.build();
+    let told = Answer::new().image(c.cid(), c.len(), &image);
+    told_down(told, DownlinkMacCommandCreator::from_dev_status_req(c))
 }
 
 // ---- NewChannelReq.
@@ -232,7 +182,7 @@ fn new_channel_req_set(c: NewChannelReqCreator, input: &[u8], at: usize) -> NewC
     }
 }
 
-fn new_channel_req(typed: bool, input: &[u8], wanted: &[u8]) -> usize {
+fn new_channel_req(input: &[u8]) -> Answer {
     let c = if is_default(input) {
         NewChannelReqCreator::default()
     } else {
@@ -242,146 +192,113 @@ fn new_channel_req(typed: bool, input: &[u8], wanted: &[u8]) -> usize {
     let c = new_channel_req_set(c, input, 6);
     let c = new_channel_req_set(c, input, 11);
     let c = new_channel_req_set(c, input, 16);
-    if typed {
-        hold_down(wanted, DownlinkMacCommandCreator::from_new_channel_req(c))
-    } else {
-        let image = c.build();
-        hold_image(
-            wanted,
-            hold_accepted(wanted, calls(input)),
-            c.cid(),
-            c.len(),
-            &image,
-        )
-    }
+    let image = c.build();
+    let told = accepted(input).image(c.cid(), c.len(), &image);
+    told_down(told, DownlinkMacCommandCreator::from_new_channel_req(c))
 }
 
 // ---- RXTimingSetupReq.
 
-// The creator behind a call, and the place behind the call's verdict.
-struct RXTimingSetupReqMade {
-    creator: RXTimingSetupReqCreator,
-    at: usize,
-}
-
-fn rx_timing_setup_req_checked(
-    answer: RXTimingSetupReqCreatorAnswer,
-    wanted: &[u8],
-    at: usize,
-) -> RXTimingSetupReqMade {
-    let verdict = answer.verdict;
-    let creator = answer.creator;
-    RXTimingSetupReqMade {
+fn rx_timing_setup_req_taken(creator: RXTimingSetupReqCreator) -> RXTimingSetupReqCreatorAnswer {
+    RXTimingSetupReqCreatorAnswer {
+        verdict: Verdict::Accepted,
         creator,
-        at: hold_verdict(wanted, at, verdict),
     }
 }
 
-fn rx_timing_setup_req_call(
-    from: RXTimingSetupReqMade,
+fn rx_timing_setup_req_set(
+    c: RXTimingSetupReqCreator,
     input: &[u8],
-    place: usize,
-    wanted: &[u8],
-) -> RXTimingSetupReqMade {
-    let call = call_at(input, place);
-    let c = from.creator;
-    let at = from.at;
+    at: usize,
+) -> RXTimingSetupReqCreatorAnswer {
+    let call = call_at(input, at);
     let setter = call.setter;
     match setter {
-        1 => rx_timing_setup_req_checked(c.set_delay(call.byte()), wanted, at),
-        _ => from,
+        1 => c.set_delay(call.byte()),
+        _ => rx_timing_setup_req_taken(c),
     }
 }
 
-fn rx_timing_setup_req(typed: bool, input: &[u8], wanted: &[u8]) -> usize {
-    let creator = if is_default(input) {
+fn rx_timing_setup_req(input: &[u8]) -> Answer {
+    let c = if is_default(input) {
         RXTimingSetupReqCreator::default()
     } else {
         RXTimingSetupReqCreator::new()
     };
-    let made = RXTimingSetupReqMade { creator, at: 0 };
-    let made = rx_timing_setup_req_call(made, input, 1, wanted);
-    let made = rx_timing_setup_req_call(made, input, 6, wanted);
-    let made = rx_timing_setup_req_call(made, input, 11, wanted);
-    let made = rx_timing_setup_req_call(made, input, 16, wanted);
-    let c = made.creator;
-    if typed {
-        hold_down(
-            wanted,
-            DownlinkMacCommandCreator::from_rx_timing_setup_req(c),
-        )
-    } else {
-        let image = c.build();
-        hold_image(wanted, made.at, c.cid(), c.len(), &image)
-    }
+    let first = rx_timing_setup_req_set(c, input, 1);
+    let first_verdict = first.verdict;
+    let c = first.creator;
+    let second = rx_timing_setup_req_set(c, input, 6);
+    let second_verdict = second.verdict;
+    let c = second.creator;
+    let third = rx_timing_setup_req_set(c, input, 11);
+    let third_verdict = third.verdict;
+    let c = third.creator;
+    let fourth = rx_timing_setup_req_set(c, input, 16);
+    let fourth_verdict = fourth.verdict;
+    let c = fourth.creator;
+    let image = c.build();
+    let told = verdicts(
+        input,
+        first_verdict,
+        second_verdict,
+        third_verdict,
+        fourth_verdict,
+    ).image(c.cid(), c.len(), &image);
+    told_down(told, DownlinkMacCommandCreator::from_rx_timing_setup_req(c))
 }
 
 // ---- TXParamSetupReq.
 
-// The creator behind a call, and the place behind the call's verdict.
-struct TXParamSetupReqMade {
-    creator: TXParamSetupReqCreator,
-    at: usize,
-}
-
-fn tx_param_setup_req_checked(
-    answer: TXParamSetupReqCreatorAnswer,
-    wanted: &[u8],
-    at: usize,
-) -> TXParamSetupReqMade {
-    let verdict = answer.verdict;
-    let creator = answer.creator;
-    TXParamSetupReqMade {
+fn tx_param_setup_req_taken(creator: TXParamSetupReqCreator) -> TXParamSetupReqCreatorAnswer {
+    TXParamSetupReqCreatorAnswer {
+        verdict: Verdict::Accepted,
         creator,
-        at: hold_verdict(wanted, at, verdict),
     }
 }
 
-fn tx_param_setup_req_call(
-    from: TXParamSetupReqMade,
+fn tx_param_setup_req_set(
+    c: TXParamSetupReqCreator,
     input: &[u8],
-    place: usize,
-    wanted: &[u8],
-) -> TXParamSetupReqMade {
-    let call = call_at(input, place);
-    let c = from.creator;
-    let at = from.at;
+    at: usize,
+) -> TXParamSetupReqCreatorAnswer {
+    let call = call_at(input, at);
     let setter = call.setter;
     match setter {
-        1 => TXParamSetupReqMade {
-            creator: c.set_downlink_dwell_time(),
-            at: hold(wanted, at, 0),
-        },
-        2 => TXParamSetupReqMade {
-            creator: c.set_uplink_dwell_time(),
-            at: hold(wanted, at, 0),
-        },
-        3 => tx_param_setup_req_checked(c.set_max_eirp(call.byte()), wanted, at),
-        _ => from,
+        1 => tx_param_setup_req_taken(c.set_downlink_dwell_time()),
+        2 => tx_param_setup_req_taken(c.set_uplink_dwell_time()),
+        3 => c.set_max_eirp(call.byte()),
+        _ => tx_param_setup_req_taken(c),
     }
 }
 
-fn tx_param_setup_req(typed: bool, input: &[u8], wanted: &[u8]) -> usize {
-    let creator = if is_default(input) {
+fn tx_param_setup_req(input: &[u8]) -> Answer {
+    let c = if is_default(input) {
         TXParamSetupReqCreator::default()
     } else {
         TXParamSetupReqCreator::new()
     };
-    let made = TXParamSetupReqMade { creator, at: 0 };
-    let made = tx_param_setup_req_call(made, input, 1, wanted);
-    let made = tx_param_setup_req_call(made, input, 6, wanted);
-    let made = tx_param_setup_req_call(made, input, 11, wanted);
-    let made = tx_param_setup_req_call(made, input, 16, wanted);
-    let c = made.creator;
-    if typed {
-        hold_down(
-            wanted,
-            DownlinkMacCommandCreator::from_tx_param_setup_req(c),
-        )
-    } else {
-        let image = c.build();
-        hold_image(wanted, made.at, c.cid(), c.len(), &image)
-    }
+    let first = tx_param_setup_req_set(c, input, 1);
+    let first_verdict = first.verdict;
+    let c = first.creator;
+    let second = tx_param_setup_req_set(c, input, 6);
+    let second_verdict = second.verdict;
+    let c = second.creator;
+    let third = tx_param_setup_req_set(c, input, 11);
+    let third_verdict = third.verdict;
+    let c = third.creator;
+    let fourth = tx_param_setup_req_set(c, input, 16);
+    let fourth_verdict = fourth.verdict;
+    let c = fourth.creator;
+    let image = c.build();
+    let told = verdicts(
+        input,
+        first_verdict,
+        second_verdict,
+        third_verdict,
+        fourth_verdict,
+    ).image(c.cid(), c.len(), &image);
+    told_down(told, DownlinkMacCommandCreator::from_tx_param_setup_req(c))
 }
 
 // ---- DlChannelReq.
@@ -396,7 +313,7 @@ fn dl_channel_req_set(c: DlChannelReqCreator, input: &[u8], at: usize) -> DlChan
     }
 }
 
-fn dl_channel_req(typed: bool, input: &[u8], wanted: &[u8]) -> usize {
+fn dl_channel_req(input: &[u8]) -> Answer {
     let c = if is_default(input) {
         DlChannelReqCreator::default()
     } else {
@@ -406,94 +323,76 @@ fn dl_channel_req(typed: bool, input: &[u8], wanted: &[u8]) -> usize {
     let c = dl_channel_req_set(c, input, 6);
     let c = dl_channel_req_set(c, input, 11);
     let c = dl_channel_req_set(c, input, 16);
-    if typed {
-        hold_down(wanted, DownlinkMacCommandCreator::from_dl_channel_req(c))
-    } else {
-        let image = c.build();
-        hold_image(
-            wanted,
-            hold_accepted(wanted, calls(input)),
-            c.cid(),
-            c.len(),
-            &image,
-        )
-    }
+    let image = c.build();
+    let told = accepted(input).image(c.cid(), c.len(), &image);
+    told_down(told, DownlinkMacCommandCreator::from_dl_channel_req(c))
 }
 
 // ---- DeviceTimeAns.
 
-// The creator behind a call, and the place behind the call's verdict.
-struct DeviceTimeAnsMade {
-    creator: DeviceTimeAnsCreator,
-    at: usize,
-}
-
-fn device_time_ans_checked(
-    answer: DeviceTimeAnsCreatorAnswer,
-    wanted: &[u8],
-    at: usize,
-) -> DeviceTimeAnsMade {
-    let verdict = answer.verdict;
-    let creator = answer.creator;
-    DeviceTimeAnsMade {
+fn device_time_ans_taken(creator: DeviceTimeAnsCreator) -> DeviceTimeAnsCreatorAnswer {
+    DeviceTimeAnsCreatorAnswer {
+        verdict: Verdict::Accepted,
         creator,
-        at: hold_verdict(wanted, at, verdict),
     }
 }
 
-fn device_time_ans_call(
-    from: DeviceTimeAnsMade,
+fn device_time_ans_set(
+    c: DeviceTimeAnsCreator,
     input: &[u8],
-    place: usize,
-    wanted: &[u8],
-) -> DeviceTimeAnsMade {
-    let call = call_at(input, place);
-    let c = from.creator;
-    let at = from.at;
+    at: usize,
+) -> DeviceTimeAnsCreatorAnswer {
+    let call = call_at(input, at);
     let setter = call.setter;
     match setter {
-        1 => DeviceTimeAnsMade {
-            creator: c.set_seconds(call.number()),
-            at: hold(wanted, at, 0),
-        },
-        2 => device_time_ans_checked(c.set_nano_seconds(call.number()), wanted, at),
-        _ => from,
+        1 => device_time_ans_taken(c.set_seconds(call.number())),
+        2 => c.set_nano_seconds(call.number()),
+        _ => device_time_ans_taken(c),
     }
 }
 
-fn device_time_ans(typed: bool, input: &[u8], wanted: &[u8]) -> usize {
-    let creator = if is_default(input) {
+fn device_time_ans(input: &[u8]) -> Answer {
+    let c = if is_default(input) {
         DeviceTimeAnsCreator::default()
     } else {
         DeviceTimeAnsCreator::new()
     };
-    let made = DeviceTimeAnsMade { creator, at: 0 };
-    let made = device_time_ans_call(made, input, 1, wanted);
-    let made = device_time_ans_call(made, input, 6, wanted);
-    let made = device_time_ans_call(made, input, 11, wanted);
-    let made = device_time_ans_call(made, input, 16, wanted);
-    let c = made.creator;
-    if typed {
-        hold_down(wanted, DownlinkMacCommandCreator::from_device_time_ans(c))
-    } else {
-        let image = c.build();
-        hold_image(wanted, made.at, c.cid(), c.len(), &image)
-    }
+    let first = device_time_ans_set(c, input, 1);
+    let first_verdict = first.verdict;
+    let c = first.creator;
+    let second = device_time_ans_set(c, input, 6);
+    let second_verdict = second.verdict;
+    let c = second.creator;
+    let third = device_time_ans_set(c, input, 11);
+    let third_verdict = third.verdict;
+    let c = third.creator;
+    let fourth = device_time_ans_set(c, input, 16);
+    let fourth_verdict = fourth.verdict;
+    let c = fourth.creator;
+    let image = c.build();
+    let told = verdicts(
+        input,
+        first_verdict,
+        second_verdict,
+        third_verdict,
+        fourth_verdict,
+    ).image(c.cid(), c.len(), &image);
+    told_down(told, DownlinkMacCommandCreator::from_device_time_ans(c))
 }
 
-// By the row of the command table: the creator by itself or, where it is asked as one of its enum, that and its records.
-pub(crate) fn answer(row: u8, typed: bool, input: &[u8], wanted: &[u8]) -> usize {
+// By the row of the command table.
+pub(crate) fn answer(row: u8, input: &[u8]) -> Answer {
     match row {
-        0 => link_check_ans(typed, input, wanted),
-        1 => link_adr_req(typed, input, wanted),
-        2 => duty_cycle_req(typed, input, wanted),
-        3 => rx_param_setup_req(typed, input, wanted),
-        4 => dev_status_req(typed, input, wanted),
-        5 => new_channel_req(typed, input, wanted),
-        6 => rx_timing_setup_req(typed, input, wanted),
-        7 => tx_param_setup_req(typed, input, wanted),
-        8 => dl_channel_req(typed, input, wanted),
-        9 => device_time_ans(typed, input, wanted),
-        _ => 0,
+        0 => link_check_ans(input),
+        1 => link_adr_req(input),
+        2 => duty_cycle_req(input),
+        3 => rx_param_setup_req(input),
+        4 => dev_status_req(input),
+        5 => new_channel_req(input),
+        6 => rx_timing_setup_req(input),
+        7 => tx_param_setup_req(input),
+        8 => dl_channel_req(input),
+        9 => device_time_ans(input),
+        _ => Answer::new(),
     }
 }

@@ -1,11 +1,9 @@
-// The entries from 41 and from 61 on, every second: the creators of the commands that are sent up, and those in their enum.
-use crate::holding::hold;
-use crate::holding::hold_verdict;
-use crate::image::hold_accepted;
-use crate::image::hold_image;
-use crate::image::hold_up;
+// The entries from 41 on, every second: the creators of the commands that are sent up, by themselves, in their enum, and as records.
+use crate::answer::Answer;
+use crate::image::accepted;
+use crate::image::told_up;
+use crate::image::verdicts;
 use crate::reading::call_at;
-use crate::reading::calls;
 use crate::reading::is_default;
 use creators::DevStatusAnsCreator;
 use creators::DevStatusAnsCreatorAnswer;
@@ -19,21 +17,19 @@ use creators::RXParamSetupAnsCreator;
 use creators::RXTimingSetupAnsCreator;
 use creators::TXParamSetupAnsCreator;
 use creators::UplinkMacCommandCreator;
+use table::Verdict;
 
 // ---- LinkCheckReq.
 
-fn link_check_req(typed: bool, input: &[u8], wanted: &[u8]) -> usize {
+fn link_check_req(input: &[u8]) -> Answer {
     let c = if is_default(input) {
         LinkCheckReqCreator::default()
     } else {
         LinkCheckReqCreator::new()
     };
-    if typed {
-        hold_up(wanted, UplinkMacCommandCreator::from_link_check_req(c))
-    } else {
-        let image = c.build();
-        hold_image(wanted, 0, c.cid(), c.len(), &image)
-    }
+    let image = c.build();
+    let told = Answer::new().image(c.cid(), c.len(), &image);
+    told_up(told, UplinkMacCommandCreator::from_link_check_req(c))
 }
 
 // ---- LinkADRAns.
@@ -49,7 +45,7 @@ fn link_adr_ans_set(c: LinkADRAnsCreator, input: &[u8], at: usize) -> LinkADRAns
     }
 }
 
-fn link_adr_ans(typed: bool, input: &[u8], wanted: &[u8]) -> usize {
+fn link_adr_ans(input: &[u8]) -> Answer {
     let c = if is_default(input) {
         LinkADRAnsCreator::default()
     } else {
@@ -59,34 +55,22 @@ fn link_adr_ans(typed: bool, input: &[u8], wanted: &[u8]) -> usize {
     let c = link_adr_ans_set(c, input, 6);
     let c = link_adr_ans_set(c, input, 11);
     let c = link_adr_ans_set(c, input, 16);
-    if typed {
-        hold_up(wanted, UplinkMacCommandCreator::from_link_adr_ans(c))
-    } else {
-        let image = c.build();
-        hold_image(
-            wanted,
-            hold_accepted(wanted, calls(input)),
-            c.cid(),
-            c.len(),
-            &image,
-        )
-    }
+    let image = c.build();
+    let told = accepted(input).image(c.cid(), c.len(), &image);
+    told_up(told, UplinkMacCommandCreator::from_link_adr_ans(c))
 }
 
 // ---- DutyCycleAns.
 
-fn duty_cycle_ans(typed: bool, input: &[u8], wanted: &[u8]) -> usize {
+fn duty_cycle_ans(input: &[u8]) -> Answer {
     let c = if is_default(input) {
         DutyCycleAnsCreator::default()
     } else {
         DutyCycleAnsCreator::new()
     };
-    if typed {
-        hold_up(wanted, UplinkMacCommandCreator::from_duty_cycle_ans(c))
-    } else {
-        let image = c.build();
-        hold_image(wanted, 0, c.cid(), c.len(), &image)
-    }
+    let image = c.build();
+    let told = Answer::new().image(c.cid(), c.len(), &image);
+    told_up(told, UplinkMacCommandCreator::from_duty_cycle_ans(c))
 }
 
 // ---- RXParamSetupAns.
@@ -106,7 +90,7 @@ fn rx_param_setup_ans_set(
     }
 }
 
-fn rx_param_setup_ans(typed: bool, input: &[u8], wanted: &[u8]) -> usize {
+fn rx_param_setup_ans(input: &[u8]) -> Answer {
     let c = if is_default(input) {
         RXParamSetupAnsCreator::default()
     } else {
@@ -116,79 +100,61 @@ fn rx_param_setup_ans(typed: bool, input: &[u8], wanted: &[u8]) -> usize {
     let c = rx_param_setup_ans_set(c, input, 6);
     let c = rx_param_setup_ans_set(c, input, 11);
     let c = rx_param_setup_ans_set(c, input, 16);
-    if typed {
-        hold_up(wanted, UplinkMacCommandCreator::from_rx_param_setup_ans(c))
-    } else {
-        let image = c.build();
-        hold_image(
-            wanted,
-            hold_accepted(wanted, calls(input)),
-            c.cid(),
-            c.len(),
-            &image,
-        )
-    }
+    let image = c.build();
+    let told = accepted(input).image(c.cid(), c.len(), &image);
+    told_up(told, UplinkMacCommandCreator::from_rx_param_setup_ans(c))
 }
 
 // ---- DevStatusAns.
 
-// The creator behind a call, and the place behind the call's verdict.
-struct DevStatusAnsMade {
-    creator: DevStatusAnsCreator,
-    at: usize,
-}
-
-fn dev_status_ans_checked(
-    answer: DevStatusAnsCreatorAnswer,
-    wanted: &[u8],
-    at: usize,
-) -> DevStatusAnsMade {
-    let verdict = answer.verdict;
-    let creator = answer.creator;
-    DevStatusAnsMade {
+fn dev_status_ans_taken(creator: DevStatusAnsCreator) -> DevStatusAnsCreatorAnswer {
+    DevStatusAnsCreatorAnswer {
+        verdict: Verdict::Accepted,
         creator,
-        at: hold_verdict(wanted, at, verdict),
     }
 }
 
-fn dev_status_ans_call(
-    from: DevStatusAnsMade,
+fn dev_status_ans_set(
+    c: DevStatusAnsCreator,
     input: &[u8],
-    place: usize,
-    wanted: &[u8],
-) -> DevStatusAnsMade {
-    let call = call_at(input, place);
-    let c = from.creator;
-    let at = from.at;
+    at: usize,
+) -> DevStatusAnsCreatorAnswer {
+    let call = call_at(input, at);
     let setter = call.setter;
     match setter {
-        1 => DevStatusAnsMade {
-            creator: c.set_battery(call.byte()),
-            at: hold(wanted, at, 0),
-        },
-        2 => dev_status_ans_checked(c.set_margin(call.signed()), wanted, at),
-        _ => from,
+        1 => dev_status_ans_taken(c.set_battery(call.byte())),
+        2 => c.set_margin(call.signed()),
+        _ => dev_status_ans_taken(c),
     }
 }
 
-fn dev_status_ans(typed: bool, input: &[u8], wanted: &[u8]) -> usize {
-    let creator = if is_default(input) {
+fn dev_status_ans(input: &[u8]) -> Answer {
+    let c = if is_default(input) {
         DevStatusAnsCreator::default()
     } else {
         DevStatusAnsCreator::new()
     };
-    let made = DevStatusAnsMade { creator, at: 0 };
-    let made = dev_status_ans_call(made, input, 1, wanted);
-    let made = dev_status_ans_call(made, input, 6, wanted);
-    let made = dev_status_ans_call(made, input, 11, wanted);
-    let made = dev_status_ans_call(made, input, 16, wanted);
-    let c = made.creator;
-    if typed {
-        hold_up(wanted, UplinkMacCommandCreator::from_dev_status_ans(c))
-    } else {
-        let image = c.build();
-        hold_image(wanted, made.at, c.cid(), c.len(), &image)
-    }
+    let first = dev_status_ans_set(c, input, 1);
+    let first_verdict = first.verdict;
+    let c = first.creator;
+    let second = dev_status_ans_set(c, input, 6);
+    let second_verdict = second.verdict;
+    let c = second.creator;
+    let third = dev_status_ans_set(c, input, 11);
+    let third_verdict = third.verdict;
+    let c = third.creator;
+    let fourth = dev_status_ans_set(c, input, 16);
+    let fourth_verdict = fourth.verdict;
+    let c = fourth.creator;
+    let image = c.build();
+    let told = verdicts(
+        input,
+        first_verdict,
+        second_verdict,
+        third_verdict,
+        fourth_verdict,
+    ).image(c.cid(), c.len(), &image);
+    told_up(told, UplinkMacCommandCreator::from_dev_status_ans(c))
 }
 
 // ---- NewChannelAns.
@@ -203,7 +169,7 @@ fn new_channel_ans_set(c: NewChannelAnsCreator, input: &[u8], at: usize) -> NewC
     }
 }
 
-fn new_channel_ans(typed: bool, input: &[u8], wanted: &[u8]) -> usize {
+fn new_channel_ans(input: &[u8]) -> Answer {
     let c = if is_default(input) {
         NewChannelAnsCreator::default()
     } else {
@@ -213,50 +179,35 @@ fn new_channel_ans(typed: bool, input: &[u8], wanted: &[u8]) -> usize {
     let c = new_channel_ans_set(c, input, 6);
     let c = new_channel_ans_set(c, input, 11);
     let c = new_channel_ans_set(c, input, 16);
-    if typed {
-        hold_up(wanted, UplinkMacCommandCreator::from_new_channel_ans(c))
-    } else {
-        let image = c.build();
-        hold_image(
-            wanted,
-            hold_accepted(wanted, calls(input)),
-            c.cid(),
-            c.len(),
-            &image,
-        )
-    }
+    let image = c.build();
+    let told = accepted(input).image(c.cid(), c.len(), &image);
+    told_up(told, UplinkMacCommandCreator::from_new_channel_ans(c))
 }
 
 // ---- RXTimingSetupAns.
 
-fn rx_timing_setup_ans(typed: bool, input: &[u8], wanted: &[u8]) -> usize {
+fn rx_timing_setup_ans(input: &[u8]) -> Answer {
     let c = if is_default(input) {
         RXTimingSetupAnsCreator::default()
     } else {
         RXTimingSetupAnsCreator::new()
     };
-    if typed {
-        hold_up(wanted, UplinkMacCommandCreator::from_rx_timing_setup_ans(c))
-    } else {
-        let image = c.build();
-        hold_image(wanted, 0, c.cid(), c.len(), &image)
-    }
+    let image = c.build();
+    let told = Answer::new().image(c.cid(), c.len(), &image);
+    told_up(told, UplinkMacCommandCreator::from_rx_timing_setup_ans(c))
 }
 
 // ---- TXParamSetupAns.
 
-fn tx_param_setup_ans(typed: bool, input: &[u8], wanted: &[u8]) -> usize {
+fn tx_param_setup_ans(input: &[u8]) -> Answer {
     let c = if is_default(input) {
         TXParamSetupAnsCreator::default()
     } else {
         TXParamSetupAnsCreator::new()
     };
-    if typed {
-        hold_up(wanted, UplinkMacCommandCreator::from_tx_param_setup_ans(c))
-    } else {
-        let image = c.build();
-        hold_image(wanted, 0, c.cid(), c.len(), &image)
-    }
+    let image = c.build();
+    let told = Answer::new().image(c.cid(), c.len(), &image);
+    told_up(told, UplinkMacCommandCreator::from_tx_param_setup_ans(c))
 }
 
 // ---- DlChannelAns.
@@ -271,7 +222,7 @@ fn dl_channel_ans_set(c: DlChannelAnsCreator, input: &[u8], at: usize) -> DlChan
     }
 }
 
-fn dl_channel_ans(typed: bool, input: &[u8], wanted: &[u8]) -> usize {
+fn dl_channel_ans(input: &[u8]) -> Answer {
     let c = if is_default(input) {
         DlChannelAnsCreator::default()
     } else {
@@ -281,49 +232,37 @@ fn dl_channel_ans(typed: bool, input: &[u8], wanted: &[u8]) -> usize {
     let c = dl_channel_ans_set(c, input, 6);
     let c = dl_channel_ans_set(c, input, 11);
     let c = dl_channel_ans_set(c, input, 16);
-    if typed {
-        hold_up(wanted, UplinkMacCommandCreator::from_dl_channel_ans(c))
-    } else {
-        let image = c.build();
-        hold_image(
-            wanted,
-            hold_accepted(wanted, calls(input)),
-            c.cid(),
-            c.len(),
-            &image,
-        )
-    }
+    let image = c.build();
+    let told = accepted(input).image(c.cid(), c.len(), &image);
+    told_up(told, UplinkMacCommandCreator::from_dl_channel_ans(c))
 }
 
 // ---- DeviceTimeReq.
 
-fn device_time_req(typed: bool, input: &[u8], wanted: &[u8]) -> usize {
+fn device_time_req(input: &[u8]) -> Answer {
     let c = if is_default(input) {
         DeviceTimeReqCreator::default()
     } else {
         DeviceTimeReqCreator::new()
     };
-    if typed {
-        hold_up(wanted, UplinkMacCommandCreator::from_device_time_req(c))
-    } else {
-        let image = c.build();
-        hold_image(wanted, 0, c.cid(), c.len(), &image)
-    }
+    let image = c.build();
+    let told = Answer::new().image(c.cid(), c.len(), &image);
+    told_up(told, UplinkMacCommandCreator::from_device_time_req(c))
 }
 
-// By the row of the command table: the creator by itself or, where it is asked as one of its enum, that and its records.
-pub(crate) fn answer(row: u8, typed: bool, input: &[u8], wanted: &[u8]) -> usize {
+// By the row of the command table.
+pub(crate) fn answer(row: u8, input: &[u8]) -> Answer {
     match row {
-        0 => link_check_req(typed, input, wanted),
-        1 => link_adr_ans(typed, input, wanted),
-        2 => duty_cycle_ans(typed, input, wanted),
-        3 => rx_param_setup_ans(typed, input, wanted),
-        4 => dev_status_ans(typed, input, wanted),
-        5 => new_channel_ans(typed, input, wanted),
-        6 => rx_timing_setup_ans(typed, input, wanted),
-        7 => tx_param_setup_ans(typed, input, wanted),
-        8 => dl_channel_ans(typed, input, wanted),
-        9 => device_time_req(typed, input, wanted),
-        _ => 0,
+        0 => link_check_req(input),
+        1 => link_adr_ans(input),
+        2 => duty_cycle_ans(input),
+        3 => rx_param_setup_ans(input),
+        4 => dev_status_ans(input),
+        5 => new_channel_ans(input),
+        6 => rx_timing_setup_ans(input),
+        7 => tx_param_setup_ans(input),
+        8 => dl_channel_ans(input),
+        9 => device_time_req(input),
+        _ => Answer::new(),
     }
 }

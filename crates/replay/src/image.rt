@@ -1,48 +1,45 @@
-// What a creator answers: its image, and its record.
-use crate::holding::hold;
-use crate::holding::hold_all;
-use crate::holding::hold_front;
-use crate::holding::hold_len;
+// What a creator answers: the verdicts of its calls, its image, and its record.
+use crate::answer::Answer;
+use crate::reading::calls;
 use build::Record;
 use creators::DownlinkMacCommandCreator;
-use creators::Image;
 use creators::UplinkMacCommandCreator;
+use table::Verdict;
 
-// The verdicts of n calls, at most four, that can't be refused.
-pub(crate) fn hold_accepted(wanted: &[u8], n: usize) -> usize {
-    let four = [0u8; 4];
-    hold_front(wanted, 0, &four, n)
+// The verdicts of the input's calls, at most four, that can't be refused.
+pub(crate) fn accepted(input: &[u8]) -> Answer {
+    Answer::new().four(0).cut(calls(input))
 }
 
-pub(crate) fn hold_image(wanted: &[u8], at: usize, cid: u8, len: usize, image: &[u8]) -> usize {
-    let at = hold(wanted, at, cid);
-    let at = hold_len(wanted, at, len);
-    hold_all(wanted, at, image)
-}
-
-fn hold_built(wanted: &[u8], cid: u8, len: usize, image: Image) -> usize {
-    let at = hold(wanted, 0, cid);
-    let at = hold_len(wanted, at, len);
-    let bytes = image.bytes;
-    hold_front(wanted, at, &bytes, image.len)
-}
-
-fn hold_record(wanted: &[u8], at: usize, record: Record) -> usize {
-    let at = hold(wanted, at, record.cid);
-    let at = hold_len(wanted, at, record.len);
-    let payload = record.payload;
-    hold_front(wanted, at, &payload, record.len)
+// The verdicts of the input's calls, of which there are so many that they are the first of these.
+pub(crate) fn verdicts(input: &[u8], a: Verdict, b: Verdict, c: Verdict, d: Verdict) -> Answer {
+    Answer::new()
+        .verdict(a)
+        .verdict(b)
+        .verdict(c)
+        .verdict(d)
+        .cut(calls(input))
 }
 
 // The creator in its enum; then the creator's record and the enum's, which are one function here.
-pub(crate) fn hold_down(wanted: &[u8], c: DownlinkMacCommandCreator) -> usize {
-    let at = hold_built(wanted, c.cid(), c.len(), c.build());
-    let at = hold_record(wanted, at, Record::of_downlink_creator(c));
-    hold_record(wanted, at, Record::of_downlink_creator(c))
+pub(crate) fn told_down(told: Answer, c: DownlinkMacCommandCreator) -> Answer {
+    let image = c.build();
+    let bytes = image.bytes;
+    let record = Record::of_downlink_creator(c);
+    told.byte(c.cid())
+        .length(c.len())
+        .front(&bytes, image.len)
+        .record(record)
+        .record(record)
 }
 
-pub(crate) fn hold_up(wanted: &[u8], c: UplinkMacCommandCreator) -> usize {
-    let at = hold_built(wanted, c.cid(), c.len(), c.build());
-    let at = hold_record(wanted, at, Record::of_uplink_creator(c));
-    hold_record(wanted, at, Record::of_uplink_creator(c))
+pub(crate) fn told_up(told: Answer, c: UplinkMacCommandCreator) -> Answer {
+    let image = c.build();
+    let bytes = image.bytes;
+    let record = Record::of_uplink_creator(c);
+    told.byte(c.cid())
+        .length(c.len())
+        .front(&bytes, image.len)
+        .record(record)
+        .record(record)
 }

@@ -1,40 +1,23 @@
-// Entries B0 and B1: the length of a list of records, and the build. The list is given as runs of ten bytes: how often, and the slot.
-use crate::holding::fail;
-use crate::holding::hold;
-use crate::holding::hold_all;
-use crate::holding::hold_four;
+// Entries B0 to B3: the length of a list of records and the build, packed and as structs. The list is given as runs of ten bytes: how
+// often, and the slot.
+use crate::answer::Answer;
+use crate::answer::put_all;
+use crate::fronts;
 use crate::reading::byte;
+use crate::reading::first;
 use crate::reading::from;
 use crate::reading::rules;
 use crate::reading::two;
 use build::BuildAnswer;
-
-// Puts the slot at a place of the records; the place behind it. Where there is no room, the place itself.
-fn put_slot(slot: &[u8], records: &mut [u8], at: usize) -> usize {
-    if slot.len() < 8 {
-        return at;
-    }
-    if records.len() < at {
-        return at;
-    }
-    if records.len() - at < 8 {
-        return at;
-    }
-    let mut i = 0;
-    while i < 8 {
-        records[at + i] = slot[i];
-        i += 1;
-    }
-    at + 8
-}
+use table::Rules;
 
 fn put_run(run: &[u8], records: &mut [u8], n: usize) -> usize {
     let times = two(run);
-    let slot = from(run, 2);
+    let slot = first(from(run, 2), 8);
     let mut end = n;
     let mut i: usize = 0;
     while i < times {
-        end = put_slot(slot, records, end);
+        end = put_all(slot, records, end);
         i += 1;
     }
     end
@@ -52,35 +35,36 @@ fn unpack(runs: &[u8], records: &mut [u8]) -> usize {
     end
 }
 
-fn hold_number(wanted: &[u8], verdict: u8, n: usize) -> usize {
-    let at = hold(wanted, 0, verdict);
+// A number in four bytes; FFFFFFFF where it has no room there.
+fn told_number(verdict: u8, n: usize) -> Answer {
+    let told = Answer::new().byte(verdict);
     if n < 4294967296 {
-        hold_four(wanted, at, n as u32)
+        told.four(n as u32)
     } else {
-        fail(wanted, at)
+        told.four(u32::MAX)
     }
 }
 
-fn hold_answer(wanted: &[u8], answer: BuildAnswer) -> usize {
+fn told(answer: BuildAnswer) -> Answer {
     match answer {
-        BuildAnswer::Total(n) => hold_number(wanted, 0, n),
-        BuildAnswer::RefusedAt { reason, place } => hold_number(wanted, reason.number(), place),
-        BuildAnswer::Refused(reason) => hold_number(wanted, reason.number(), 0),
+        BuildAnswer::Total(n) => told_number(0, n),
+        BuildAnswer::RefusedAt { reason, place } => told_number(reason.number(), place),
+        BuildAnswer::Refused(reason) => told_number(reason.number(), 0),
     }
 }
 
-// The records are those that the input's runs make.
-fn length_of(input: &[u8], records: &[u8], wanted: &[u8]) -> usize {
-    hold_answer(wanted, build::mac_commands_len(rules(input), records))
-}
-
-pub(crate) fn length(input: &[u8], records: &mut [u8], wanted: &[u8]) -> usize {
-    let n = unpack(from(input, 1), records);
-    if n <= records.len() {
-        length_of(input, &records[0..n], wanted)
+fn length_of(structs: bool, rules: Rules, records: &[u8]) -> BuildAnswer {
+    if structs {
+        fronts::records_len(rules, records)
     } else {
-        fail(wanted, 0)
+        build::mac_commands_len(rules, records)
     }
+}
+
+fn length(structs: bool, input: &[u8], out: &mut [u8]) -> usize {
+    let mut records = io::large_buffer();
+    let n = unpack(from(input, 1), &mut records);
+    told(length_of(structs, rules(input), first(&records, n))).put(out, 0)
 }
 
 fn fill(buffer: &mut [u8], b: u8) {
@@ -91,22 +75,38 @@ fn fill(buffer: &mut [u8], b: u8) {
     }
 }
 
-// The answer, and the whole buffer afterwards.
-fn built(input: &[u8], records: &[u8], buffer: &mut [u8], wanted: &[u8]) -> usize {
-    fill(buffer, byte(input, 3));
-    let answer = build::build_mac_commands(rules(input), records, buffer);
-    let at = hold_answer(wanted, answer);
-    hold_all(wanted, at, buffer)
+fn built(structs: bool, rules: Rules, records: &[u8], buffer: &mut [u8]) -> BuildAnswer {
+    if structs {
+        fronts::build_records(rules, records, buffer)
+    } else {
+        build::build_mac_commands(rules, records, buffer)
+    }
 }
 
-pub(crate) fn build(input: &[u8], records: &mut [u8], buffer: &mut [u8], wanted: &[u8]) -> usize {
-    let n = unpack(from(input, 4), records);
-    let room = two(from(input, 1));
-    if records.len() < n {
-        return fail(wanted, 0);
+// The answer, and behind it the whole buffer afterwards.
+fn into_buffer(structs: bool, input: &[u8], records: &[u8], out: &mut [u8]) -> usize {
+    let end = 5 + two(from(input, 1));
+    if out.len() < end {
+        return 0;
     }
-    if buffer.len() < room {
-        return fail(wanted, 0);
+    fill(&mut out[5..end], byte(input, 3));
+    let answer = built(structs, rules(input), records, &mut out[5..end]);
+    told(answer).put(out, 0);
+    end
+}
+
+fn build(structs: bool, input: &[u8], out: &mut [u8]) -> usize {
+    let mut records = io::large_buffer();
+    let n = unpack(from(input, 4), &mut records);
+    into_buffer(structs, input, first(&records, n), out)
+}
+
+pub(crate) fn answer(which: u8, input: &[u8], out: &mut [u8]) -> usize {
+    match which {
+        0 => length(false, input, out),
+        1 => build(false, input, out),
+        2 => length(true, input, out),
+        3 => build(true, input, out),
+        _ => 0,
     }
-    built(input, &records[0..n], &mut buffer[0..room], wanted)
 }

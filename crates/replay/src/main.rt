@@ -1,10 +1,10 @@
 // Replays cases that the oracle wrote, from standard input (docs/ORACLE.md has their form): asks the port, and compares every byte of
-// its answer with the line's. Prints each case that differs, how many of each entry agree, and a summary.
+// its answer with the line's. Prints each case that differs, with both answers, and a summary.
+mod answer;
 mod creators_down;
 mod creators_up;
 mod entry;
-mod heading;
-mod holding;
+mod fronts;
 mod image;
 mod line;
 mod lists;
@@ -56,44 +56,28 @@ impl Totals {
     }
 }
 
-fn count(entries: &mut [u64], entry: u8) {
-    let i = entry as usize;
-    if i < entries.len() {
-        entries[i] = one_more(entries[i]);
-    }
-}
-
-fn judged(
-    entry: u8,
-    input: &[u8],
-    wanted: &[u8],
-    records: &mut [u8],
-    buffer: &mut [u8],
-    entries: &mut [u64],
-    totals: Totals,
-) -> Totals {
-    let end = entry::answer(entry, input, records, buffer, wanted);
-    if end == 0 {
+fn judged(entry: u8, input: &[u8], wanted: &[u8], given: &[u8], totals: Totals) -> Totals {
+    if given.len() == 0 {
         return totals.not_read();
     }
-    if end == wanted.len() {
-        count(entries, entry);
+    if check::same(wanted, given) {
         return totals.agreed();
     }
-    report::print_difference(entry, input, wanted, end);
+    report::print_difference(entry, input, wanted, given);
     totals.differed()
 }
 
+fn answered(entry: u8, input: &[u8], wanted: &[u8], out: &mut [u8], totals: Totals) -> Totals {
+    let end = entry::answer(entry, input, out);
+    if end <= out.len() {
+        judged(entry, input, wanted, &out[0..end], totals)
+    } else {
+        totals.not_read()
+    }
+}
+
 // A case, whose input ends and whose answer ends at these places of the line's bytes.
-fn case(
-    bytes: &[u8],
-    input: usize,
-    answer: usize,
-    records: &mut [u8],
-    buffer: &mut [u8],
-    entries: &mut [u64],
-    totals: Totals,
-) -> Totals {
+fn case(bytes: &[u8], input: usize, answer: usize, out: &mut [u8], totals: Totals) -> Totals {
     if bytes.len() < answer {
         return totals.not_read();
     }
@@ -103,37 +87,20 @@ fn case(
     if input < 2 {
         return totals.not_read();
     }
-    judged(
+    answered(
         bytes[0],
         &bytes[2..input],
         &bytes[input..answer],
-        records,
-        buffer,
-        entries,
+        out,
         totals,
     )
 }
 
-fn whole_line(
-    line: Line,
-    bytes: &[u8],
-    records: &mut [u8],
-    buffer: &mut [u8],
-    entries: &mut [u64],
-    totals: Totals,
-) -> Totals {
+fn whole_line(line: Line, bytes: &[u8], out: &mut [u8], totals: Totals) -> Totals {
     match line.asked() {
         Asked::Comment => totals,
         Asked::Unread => totals.not_read(),
-        Asked::Case { input, answer } => case(
-            bytes,
-            input,
-            answer,
-            records,
-            buffer,
-            entries,
-            totals,
-        ),
+        Asked::Case { input, answer } => case(bytes, input, answer, out, totals),
     }
 }
 
@@ -145,20 +112,13 @@ struct State {
     ended: bool,
 }
 
-fn more(
-    c: u8,
-    state: State,
-    bytes: &mut [u8],
-    records: &mut [u8],
-    buffer: &mut [u8],
-    entries: &mut [u64],
-) -> State {
+fn more(c: u8, state: State, bytes: &mut [u8], out: &mut [u8]) -> State {
     let line = state.line;
     let totals = state.totals;
     if c == b'\n' {
         State {
             line: Line::new(),
-            totals: whole_line(line, bytes, records, buffer, entries, totals),
+            totals: whole_line(line, bytes, out, totals),
             ended: false,
         }
     } else {
@@ -170,50 +130,31 @@ fn more(
     }
 }
 
-fn read_part(
-    part: &[u8],
-    from: State,
-    bytes: &mut [u8],
-    records: &mut [u8],
-    buffer: &mut [u8],
-    entries: &mut [u64],
-) -> State {
+fn read_part(part: &[u8], from: State, bytes: &mut [u8], out: &mut [u8]) -> State {
     let mut state = from;
     let mut i = 0;
     while i < part.len() {
-        state = more(part[i], state, bytes, records, buffer, entries);
+        state = more(part[i], state, bytes, out);
         i += 1;
     }
     state
 }
 
-fn finish(state: State, entries: &[u64]) {
+fn finish(state: State) {
     let line = state.line;
-    let begun = line.is_begun();
     let totals = state.totals;
-    report::print_entries(entries);
-    report::print_summary(
-        totals.agree,
-        totals.differ,
-        if begun {
-            one_more(totals.unread)
-        } else {
-            totals.unread
-        },
-    );
+    let totals = if line.is_begun() {
+        totals.not_read()
+    } else {
+        totals
+    };
+    report::print_summary(totals.agree, totals.differ, totals.unread);
 }
 
 // Reads once, and replays what came.
-fn read_some(
-    part: &mut [u8],
-    from: State,
-    bytes: &mut [u8],
-    records: &mut [u8],
-    buffer: &mut [u8],
-    entries: &mut [u64],
-) -> State {
+fn read_some(part: &mut [u8], from: State, bytes: &mut [u8], out: &mut [u8]) -> State {
     let n = io::read_full(STDIN_FILENO, part);
-    let mut state = read_part(&part[..n], from, bytes, records, buffer, entries);
+    let mut state = read_part(&part[..n], from, bytes, out);
     state.ended = n == 0;
     state
 }
@@ -226,13 +167,7 @@ fn left(turns: u64, ended: bool) -> u64
     if ended { 0 } else { turns - 1 }
 }
 
-fn replay(
-    part: &mut [u8],
-    bytes: &mut [u8],
-    records: &mut [u8],
-    buffer: &mut [u8],
-    entries: &mut [u64],
-) -> State {
+fn replay(part: &mut [u8], bytes: &mut [u8], out: &mut [u8]) -> State {
     let mut state = State {
         line: Line::new(),
         totals: Totals::new(),
@@ -240,7 +175,7 @@ fn replay(
     };
     let mut turns = u64::MAX;
     while 0 < turns {
-        state = read_some(part, state, bytes, records, buffer, entries);
+        state = read_some(part, state, bytes, out);
         turns = left(turns, state.ended);
     }
     state
@@ -249,15 +184,6 @@ fn replay(
 fn main() {
     let mut part = io::large_buffer();
     let mut bytes = io::large_buffer();
-    let mut records = io::large_buffer();
-    let mut buffer = io::large_buffer();
-    let mut entries = [0u64; 256];
-    let state = replay(
-        &mut part,
-        &mut bytes,
-        &mut records,
-        &mut buffer,
-        &mut entries,
-    );
-    finish(state, &entries);
+    let mut out = io::large_buffer();
+    finish(replay(&mut part, &mut bytes, &mut out));
 }

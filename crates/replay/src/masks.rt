@@ -1,9 +1,5 @@
 // Entries 80 to 87 and 90 to 97: the channel masks of width 2 and of width 9. Where the input has a mask it comes first.
-use crate::holding::hold;
-use crate::holding::hold_all;
-use crate::holding::hold_flag;
-use crate::holding::hold_flags;
-use crate::holding::hold_verdict;
+use crate::answer::Answer;
 use crate::reading::byte;
 use crate::reading::flag;
 use crate::reading::from;
@@ -16,23 +12,17 @@ use fields::ChannelMask9Answer;
 use fields::EnabledAnswer;
 use table::Verdict;
 
-fn hold_bank(wanted: &[u8], answer: BankAnswer) -> usize {
+fn told_bank(answer: BankAnswer) -> Answer {
     match answer {
-        BankAnswer::Is(bank) => {
-            let at = hold(wanted, 0, 0);
-            hold(wanted, at, bank)
-        }
-        BankAnswer::Refused(reason) => hold(wanted, 0, reason.number()),
+        BankAnswer::Is(bank) => Answer::new().byte(0).byte(bank),
+        BankAnswer::Refused(reason) => Answer::new().byte(reason.number()),
     }
 }
 
-fn hold_enabled(wanted: &[u8], answer: EnabledAnswer) -> usize {
+fn told_enabled(answer: EnabledAnswer) -> Answer {
     match answer {
-        EnabledAnswer::Is(on) => {
-            let at = hold(wanted, 0, 0);
-            hold_flag(wanted, at, on)
-        }
-        EnabledAnswer::Refused(reason) => hold(wanted, 0, reason.number()),
+        EnabledAnswer::Is(on) => Answer::new().byte(0).flag(on),
+        EnabledAnswer::Refused(reason) => Answer::new().byte(reason.number()),
     }
 }
 
@@ -42,47 +32,47 @@ fn mask2(input: &[u8]) -> ChannelMask2 {
     ChannelMask2::from([byte(input, 0), byte(input, 1)])
 }
 
-fn hold_mask2(wanted: &[u8], at: usize, mask: ChannelMask2) -> usize {
+fn told_mask2(told: Answer, mask: ChannelMask2) -> Answer {
     let bytes = mask.as_ref();
-    hold_all(wanted, at, &bytes)
+    told.all(&bytes)
 }
 
 // The verdict, and the mask afterwards.
-fn hold_changed2(wanted: &[u8], answer: ChannelMask2Answer) -> usize {
+fn changed2(answer: ChannelMask2Answer) -> Answer {
     let verdict = answer.verdict;
     let mask = answer.mask;
-    let at = hold_verdict(wanted, 0, verdict);
-    hold_mask2(wanted, at, mask)
+    told_mask2(Answer::new().verdict(verdict), mask)
 }
 
 // The verdict, and the mask where it is accepted.
-fn new2(input: &[u8], wanted: &[u8]) -> usize {
+fn new2(input: &[u8]) -> Answer {
     let answer = ChannelMask2::new(input);
     let verdict = answer.verdict;
     match verdict {
-        Verdict::Accepted => hold_changed2(wanted, answer),
-        Verdict::Refused(reason) => hold(wanted, 0, reason.number()),
+        Verdict::Accepted => changed2(answer),
+        Verdict::Refused(reason) => Answer::new().byte(reason.number()),
     }
 }
 
-fn statuses2(input: &[u8], wanted: &[u8]) -> usize {
-    let flags = mask2(input).statuses();
-    hold_flags(wanted, 0, &flags)
+fn statuses2(mask: ChannelMask2) -> Answer {
+    let flags = mask.statuses();
+    Answer::new().flags(&flags)
 }
 
-pub(crate) fn width2(which: u8, input: &[u8], wanted: &[u8]) -> usize {
+pub(crate) fn width2(which: u8, input: &[u8]) -> Answer {
     let mask = mask2(input);
     let rest = from(input, 2);
+    let i = index(rest);
     match which {
-        0 => hold_mask2(wanted, 0, ChannelMask2::default()),
-        1 => new2(input, wanted),
-        2 => hold_mask2(wanted, 0, mask),
-        3 => hold_enabled(wanted, mask.is_enabled(index(rest))),
-        4 => hold_bank(wanted, mask.get_index(index(rest))),
-        5 => hold_changed2(wanted, mask.set_bank(index(rest), byte(rest, 8))),
-        6 => hold_changed2(wanted, mask.set_channel(index(rest), flag(rest, 8))),
-        7 => statuses2(input, wanted),
-        _ => 0,
+        0 => told_mask2(Answer::new(), ChannelMask2::default()),
+        1 => new2(input),
+        2 => told_mask2(Answer::new(), mask),
+        3 => told_enabled(mask.is_enabled(i)),
+        4 => told_bank(mask.get_index(i)),
+        5 => changed2(mask.set_bank(i, byte(rest, 8))),
+        6 => changed2(mask.set_channel(i, flag(rest, 8))),
+        7 => statuses2(mask),
+        _ => Answer::new(),
     }
 }
 
@@ -102,46 +92,46 @@ fn mask9(input: &[u8]) -> ChannelMask9 {
     ])
 }
 
-fn hold_mask9(wanted: &[u8], at: usize, mask: ChannelMask9) -> usize {
+fn told_mask9(told: Answer, mask: ChannelMask9) -> Answer {
     let bytes = mask.as_ref();
-    hold_all(wanted, at, &bytes)
+    told.all(&bytes)
 }
 
 // The verdict, and the mask afterwards.
-fn hold_changed9(wanted: &[u8], answer: ChannelMask9Answer) -> usize {
+fn changed9(answer: ChannelMask9Answer) -> Answer {
     let verdict = answer.verdict;
     let mask = answer.mask;
-    let at = hold_verdict(wanted, 0, verdict);
-    hold_mask9(wanted, at, mask)
+    told_mask9(Answer::new().verdict(verdict), mask)
 }
 
 // The verdict, and the mask where it is accepted.
-fn new9(input: &[u8], wanted: &[u8]) -> usize {
+fn new9(input: &[u8]) -> Answer {
     let answer = ChannelMask9::new(input);
     let verdict = answer.verdict;
     match verdict {
-        Verdict::Accepted => hold_changed9(wanted, answer),
-        Verdict::Refused(reason) => hold(wanted, 0, reason.number()),
+        Verdict::Accepted => changed9(answer),
+        Verdict::Refused(reason) => Answer::new().byte(reason.number()),
     }
 }
 
-fn statuses9(input: &[u8], wanted: &[u8]) -> usize {
-    let flags = mask9(input).statuses();
-    hold_flags(wanted, 0, &flags)
+fn statuses9(mask: ChannelMask9) -> Answer {
+    let flags = mask.statuses();
+    Answer::new().flags(&flags)
 }
 
-pub(crate) fn width9(which: u8, input: &[u8], wanted: &[u8]) -> usize {
+pub(crate) fn width9(which: u8, input: &[u8]) -> Answer {
     let mask = mask9(input);
     let rest = from(input, 9);
+    let i = index(rest);
     match which {
-        0 => hold_mask9(wanted, 0, ChannelMask9::default()),
-        1 => new9(input, wanted),
-        2 => hold_mask9(wanted, 0, mask),
-        3 => hold_enabled(wanted, mask.is_enabled(index(rest))),
-        4 => hold_bank(wanted, mask.get_index(index(rest))),
-        5 => hold_changed9(wanted, mask.set_bank(index(rest), byte(rest, 8))),
-        6 => hold_changed9(wanted, mask.set_channel(index(rest), flag(rest, 8))),
-        7 => statuses9(input, wanted),
-        _ => 0,
+        0 => told_mask9(Answer::new(), ChannelMask9::default()),
+        1 => new9(input),
+        2 => told_mask9(Answer::new(), mask),
+        3 => told_enabled(mask.is_enabled(i)),
+        4 => told_bank(mask.get_index(i)),
+        5 => changed9(mask.set_bank(i, byte(rest, 8))),
+        6 => changed9(mask.set_channel(i, flag(rest, 8))),
+        7 => statuses9(mask),
+        _ => Answer::new(),
     }
 }

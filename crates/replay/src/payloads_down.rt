@@ -1,10 +1,5 @@
 // The entries from 10 on, every second: the payload types of the commands that are sent down.
-use crate::heading::hold_heading;
-use crate::holding::hold;
-use crate::holding::hold_all;
-use crate::holding::hold_flag;
-use crate::holding::hold_four;
-use crate::holding::hold_frequency;
+use crate::answer::Answer;
 use payloads::DevStatusReqPayload;
 use payloads::DeviceTimeAnsAnswer;
 use payloads::DeviceTimeAnsPayload;
@@ -27,251 +22,230 @@ use payloads::TXParamSetupReqPayload;
 
 // ---- LinkCheckAns.
 
-fn link_check_ans_read(p: LinkCheckAnsPayload, wanted: &[u8], verdict: usize) -> usize {
-    let at = hold(wanted, verdict, 0);
+fn link_check_ans_read(told: Answer, p: LinkCheckAnsPayload) -> Answer {
     let bytes = p.bytes();
-    let at = hold_all(wanted, at, &bytes);
     let again = LinkCheckAnsPayload::from(bytes).bytes();
-    let at = hold_all(wanted, at, &again);
-    let at = hold(wanted, at, p.margin());
-    hold(wanted, at, p.gateway_count())
+    told.accepted(&bytes)
+        .all(&again)
+        .byte(p.margin())
+        .byte(p.gateway_count())
 }
 
-fn link_check_ans(input: &[u8], wanted: &[u8]) -> usize {
-    let at = hold_heading(
-        wanted,
+fn link_check_ans(input: &[u8]) -> Answer {
+    let told = Answer::new().heading(
         LinkCheckAnsPayload::cid(),
         LinkCheckAnsPayload::uplink(),
         LinkCheckAnsPayload::len(),
     );
     match LinkCheckAnsPayload::new(input) {
-        LinkCheckAnsAnswer::Read(p) => link_check_ans_read(p, wanted, at),
-        LinkCheckAnsAnswer::Refused(reason) => hold(wanted, at, reason.number()),
+        LinkCheckAnsAnswer::Read(p) => link_check_ans_read(told, p),
+        LinkCheckAnsAnswer::Refused(reason) => told.byte(reason.number()),
     }
 }
 
 // ---- LinkADRReq.
 
-fn link_adr_req_read(p: LinkADRReqPayload, wanted: &[u8], verdict: usize) -> usize {
-    let at = hold(wanted, verdict, 0);
+fn link_adr_req_read(told: Answer, p: LinkADRReqPayload) -> Answer {
     let bytes = p.bytes();
-    let at = hold_all(wanted, at, &bytes);
     let again = LinkADRReqPayload::from(bytes).bytes();
-    let at = hold_all(wanted, at, &again);
-    let at = hold(wanted, at, p.data_rate());
-    let at = hold(wanted, at, p.tx_power());
     let mask = p.channel_mask().as_ref();
-    let at = hold_all(wanted, at, &mask);
-    hold(wanted, at, p.redundancy().raw_value())
+    told.accepted(&bytes)
+        .all(&again)
+        .byte(p.data_rate())
+        .byte(p.tx_power())
+        .all(&mask)
+        .byte(p.redundancy().raw_value())
 }
 
-fn link_adr_req(input: &[u8], wanted: &[u8]) -> usize {
-    let at = hold_heading(
-        wanted,
+fn link_adr_req(input: &[u8]) -> Answer {
+    let told = Answer::new().heading(
         LinkADRReqPayload::cid(),
         LinkADRReqPayload::uplink(),
         LinkADRReqPayload::len(),
     );
     match LinkADRReqPayload::new(input) {
-        LinkADRReqAnswer::Read(p) => link_adr_req_read(p, wanted, at),
-        LinkADRReqAnswer::Refused(reason) => hold(wanted, at, reason.number()),
+        LinkADRReqAnswer::Read(p) => link_adr_req_read(told, p),
+        LinkADRReqAnswer::Refused(reason) => told.byte(reason.number()),
     }
 }
 
 // ---- DutyCycleReq.
 
-// The bits of the float.
 fn max_duty_cycle_bits(p: DutyCycleReqPayload) -> u32 {
     f32::to_bits(p.max_duty_cycle())
 }
 
-fn duty_cycle_req_read(p: DutyCycleReqPayload, wanted: &[u8], verdict: usize) -> usize {
-    let at = hold(wanted, verdict, 0);
+fn duty_cycle_req_read(told: Answer, p: DutyCycleReqPayload) -> Answer {
     let bytes = p.bytes();
-    let at = hold_all(wanted, at, &bytes);
-    let at = hold(wanted, at, p.max_duty_cycle_raw());
-    hold_four(wanted, at, max_duty_cycle_bits(p))
+    told.accepted(&bytes)
+        .byte(p.max_duty_cycle_raw())
+        .four(max_duty_cycle_bits(p))
 }
 
-fn duty_cycle_req(input: &[u8], wanted: &[u8]) -> usize {
-    let at = hold_heading(
-        wanted,
+fn duty_cycle_req(input: &[u8]) -> Answer {
+    let told = Answer::new().heading(
         DutyCycleReqPayload::cid(),
         DutyCycleReqPayload::uplink(),
         DutyCycleReqPayload::len(),
     );
     match DutyCycleReqPayload::new(input) {
-        DutyCycleReqAnswer::Read(p) => duty_cycle_req_read(p, wanted, at),
-        DutyCycleReqAnswer::Refused(reason) => hold(wanted, at, reason.number()),
+        DutyCycleReqAnswer::Read(p) => duty_cycle_req_read(told, p),
+        DutyCycleReqAnswer::Refused(reason) => told.byte(reason.number()),
     }
 }
 
 // ---- RXParamSetupReq.
 
-fn rx_param_setup_req_read(p: RXParamSetupReqPayload, wanted: &[u8], verdict: usize) -> usize {
-    let at = hold(wanted, verdict, 0);
+fn rx_param_setup_req_read(told: Answer, p: RXParamSetupReqPayload) -> Answer {
     let bytes = p.bytes();
-    let at = hold_all(wanted, at, &bytes);
-    let at = hold(wanted, at, p.dl_settings().raw_value());
-    hold_frequency(wanted, at, p.frequency())
+    told.accepted(&bytes)
+        .byte(p.dl_settings().raw_value())
+        .frequency(p.frequency())
 }
 
-fn rx_param_setup_req(input: &[u8], wanted: &[u8]) -> usize {
-    let at = hold_heading(
-        wanted,
+fn rx_param_setup_req(input: &[u8]) -> Answer {
+    let told = Answer::new().heading(
         RXParamSetupReqPayload::cid(),
         RXParamSetupReqPayload::uplink(),
         RXParamSetupReqPayload::len(),
     );
     match RXParamSetupReqPayload::new(input) {
-        RXParamSetupReqAnswer::Read(p) => rx_param_setup_req_read(p, wanted, at),
-        RXParamSetupReqAnswer::Refused(reason) => hold(wanted, at, reason.number()),
+        RXParamSetupReqAnswer::Read(p) => rx_param_setup_req_read(told, p),
+        RXParamSetupReqAnswer::Refused(reason) => told.byte(reason.number()),
     }
 }
 
 // ---- DevStatusReq.
 
-fn dev_status_req(input: &[u8], wanted: &[u8]) -> usize {
-    let at = hold_heading(
-        wanted,
-        DevStatusReqPayload::cid(),
-        DevStatusReqPayload::uplink(),
-        DevStatusReqPayload::len(),
-    );
-    let at = hold(wanted, at, 0);
+fn dev_status_req(input: &[u8]) -> Answer {
     let bytes = DevStatusReqPayload::new(input).bytes();
-    hold_all(wanted, at, &bytes)
+    Answer::new()
+        .heading(
+            DevStatusReqPayload::cid(),
+            DevStatusReqPayload::uplink(),
+            DevStatusReqPayload::len(),
+        )
+        .accepted(&bytes)
 }
 
 // ---- NewChannelReq.
 
-fn new_channel_req_read(p: NewChannelReqPayload, wanted: &[u8], verdict: usize) -> usize {
-    let at = hold(wanted, verdict, 0);
+fn new_channel_req_read(told: Answer, p: NewChannelReqPayload) -> Answer {
     let bytes = p.bytes();
-    let at = hold_all(wanted, at, &bytes);
-    let at = hold(wanted, at, p.channel_index());
-    let at = hold_frequency(wanted, at, p.frequency());
-    hold(wanted, at, p.data_rate_range().raw_value())
+    told.accepted(&bytes)
+        .byte(p.channel_index())
+        .frequency(p.frequency())
+        .byte(p.data_rate_range().raw_value())
 }
 
-fn new_channel_req(input: &[u8], wanted: &[u8]) -> usize {
-    let at = hold_heading(
-        wanted,
+fn new_channel_req(input: &[u8]) -> Answer {
+    let told = Answer::new().heading(
         NewChannelReqPayload::cid(),
         NewChannelReqPayload::uplink(),
         NewChannelReqPayload::len(),
     );
     match NewChannelReqPayload::new(input) {
-        NewChannelReqAnswer::Read(p) => new_channel_req_read(p, wanted, at),
-        NewChannelReqAnswer::Refused(reason) => hold(wanted, at, reason.number()),
+        NewChannelReqAnswer::Read(p) => new_channel_req_read(told, p),
+        NewChannelReqAnswer::Refused(reason) => told.byte(reason.number()),
     }
 }
 
 // ---- RXTimingSetupReq.
 
-fn rx_timing_setup_req_read(p: RXTimingSetupReqPayload, wanted: &[u8], verdict: usize) -> usize {
-    let at = hold(wanted, verdict, 0);
+fn rx_timing_setup_req_read(told: Answer, p: RXTimingSetupReqPayload) -> Answer {
     let bytes = p.bytes();
-    let at = hold_all(wanted, at, &bytes);
-    hold(wanted, at, p.delay())
+    told.accepted(&bytes).byte(p.delay())
 }
 
-fn rx_timing_setup_req(input: &[u8], wanted: &[u8]) -> usize {
-    let at = hold_heading(
-        wanted,
+fn rx_timing_setup_req(input: &[u8]) -> Answer {
+    let told = Answer::new().heading(
         RXTimingSetupReqPayload::cid(),
         RXTimingSetupReqPayload::uplink(),
         RXTimingSetupReqPayload::len(),
     );
     match RXTimingSetupReqPayload::new(input) {
-        RXTimingSetupReqAnswer::Read(p) => rx_timing_setup_req_read(p, wanted, at),
-        RXTimingSetupReqAnswer::Refused(reason) => hold(wanted, at, reason.number()),
+        RXTimingSetupReqAnswer::Read(p) => rx_timing_setup_req_read(told, p),
+        RXTimingSetupReqAnswer::Refused(reason) => told.byte(reason.number()),
     }
 }
 
 // ---- TXParamSetupReq.
 
-fn tx_param_setup_req_read(p: TXParamSetupReqPayload, wanted: &[u8], verdict: usize) -> usize {
-    let at = hold(wanted, verdict, 0);
+fn tx_param_setup_req_read(told: Answer, p: TXParamSetupReqPayload) -> Answer {
     let bytes = p.bytes();
-    let at = hold_all(wanted, at, &bytes);
-    let at = hold_flag(wanted, at, p.downlink_dwell_time());
-    let at = hold_flag(wanted, at, p.uplink_dwell_time());
-    hold(wanted, at, p.max_eirp())
+    told.accepted(&bytes)
+        .flag(p.downlink_dwell_time())
+        .flag(p.uplink_dwell_time())
+        .byte(p.max_eirp())
 }
 
-fn tx_param_setup_req(input: &[u8], wanted: &[u8]) -> usize {
-    let at = hold_heading(
-        wanted,
+fn tx_param_setup_req(input: &[u8]) -> Answer {
+    let told = Answer::new().heading(
         TXParamSetupReqPayload::cid(),
         TXParamSetupReqPayload::uplink(),
         TXParamSetupReqPayload::len(),
     );
     match TXParamSetupReqPayload::new(input) {
-        TXParamSetupReqAnswer::Read(p) => tx_param_setup_req_read(p, wanted, at),
-        TXParamSetupReqAnswer::Refused(reason) => hold(wanted, at, reason.number()),
+        TXParamSetupReqAnswer::Read(p) => tx_param_setup_req_read(told, p),
+        TXParamSetupReqAnswer::Refused(reason) => told.byte(reason.number()),
     }
 }
 
 // ---- DlChannelReq.
 
-fn dl_channel_req_read(p: DlChannelReqPayload, wanted: &[u8], verdict: usize) -> usize {
-    let at = hold(wanted, verdict, 0);
+fn dl_channel_req_read(told: Answer, p: DlChannelReqPayload) -> Answer {
     let bytes = p.bytes();
-    let at = hold_all(wanted, at, &bytes);
-    let at = hold(wanted, at, p.channel_index());
-    hold_frequency(wanted, at, p.frequency())
+    told.accepted(&bytes)
+        .byte(p.channel_index())
+        .frequency(p.frequency())
 }
 
-fn dl_channel_req(input: &[u8], wanted: &[u8]) -> usize {
-    let at = hold_heading(
-        wanted,
+fn dl_channel_req(input: &[u8]) -> Answer {
+    let told = Answer::new().heading(
         DlChannelReqPayload::cid(),
         DlChannelReqPayload::uplink(),
         DlChannelReqPayload::len(),
     );
     match DlChannelReqPayload::new(input) {
-        DlChannelReqAnswer::Read(p) => dl_channel_req_read(p, wanted, at),
-        DlChannelReqAnswer::Refused(reason) => hold(wanted, at, reason.number()),
+        DlChannelReqAnswer::Read(p) => dl_channel_req_read(told, p),
+        DlChannelReqAnswer::Refused(reason) => told.byte(reason.number()),
     }
 }
 
 // ---- DeviceTimeAns.
 
-fn device_time_ans_read(p: DeviceTimeAnsPayload, wanted: &[u8], verdict: usize) -> usize {
-    let at = hold(wanted, verdict, 0);
+fn device_time_ans_read(told: Answer, p: DeviceTimeAnsPayload) -> Answer {
     let bytes = p.bytes();
-    let at = hold_all(wanted, at, &bytes);
-    let at = hold_four(wanted, at, p.seconds());
-    hold_four(wanted, at, p.nano_seconds())
+    told.accepted(&bytes)
+        .four(p.seconds())
+        .four(p.nano_seconds())
 }
 
-fn device_time_ans(input: &[u8], wanted: &[u8]) -> usize {
-    let at = hold_heading(
-        wanted,
+fn device_time_ans(input: &[u8]) -> Answer {
+    let told = Answer::new().heading(
         DeviceTimeAnsPayload::cid(),
         DeviceTimeAnsPayload::uplink(),
         DeviceTimeAnsPayload::len(),
     );
     match DeviceTimeAnsPayload::new(input) {
-        DeviceTimeAnsAnswer::Read(p) => device_time_ans_read(p, wanted, at),
-        DeviceTimeAnsAnswer::Refused(reason) => hold(wanted, at, reason.number()),
+        DeviceTimeAnsAnswer::Read(p) => device_time_ans_read(told, p),
+        DeviceTimeAnsAnswer::Refused(reason) => told.byte(reason.number()),
     }
 }
 
 // By the row of the command table.
-pub(crate) fn answer(row: u8, input: &[u8], wanted: &[u8]) -> usize {
+pub(crate) fn answer(row: u8, input: &[u8]) -> Answer {
     match row {
-        0 => link_check_ans(input, wanted),
-        1 => link_adr_req(input, wanted),
-        2 => duty_cycle_req(input, wanted),
-        3 => rx_param_setup_req(input, wanted),
-        4 => dev_status_req(input, wanted),
-        5 => new_channel_req(input, wanted),
-        6 => rx_timing_setup_req(input, wanted),
-        7 => tx_param_setup_req(input, wanted),
-        8 => dl_channel_req(input, wanted),
-        9 => device_time_ans(input, wanted),
-        _ => 0,
+        0 => link_check_ans(input),
+        1 => link_adr_req(input),
+        2 => duty_cycle_req(input),
+        3 => rx_param_setup_req(input),
+        4 => dev_status_req(input),
+        5 => new_channel_req(input),
+        6 => rx_timing_setup_req(input),
+        7 => tx_param_setup_req(input),
+        8 => dl_channel_req(input),
+        9 => device_time_ans(input),
+        _ => Answer::new(),
     }
 }

@@ -21,6 +21,11 @@ pub(crate) fn from(s: &[u8], i: usize) -> &[u8] {
     if i <= s.len() { &s[i..] } else { &s[..0] }
 }
 
+// The first n; all of them where there are fewer.
+pub(crate) fn first(s: &[u8], n: usize) -> &[u8] {
+    if n <= s.len() { &s[0..n] } else { s }
+}
+
 fn joined_two(a: u8, b: u8) -> u64
     ensures { λ r. ⌜ r < 65536 ⌝ }
 {

@@ -1,13 +1,12 @@
-// Entries A0 and A1: the walk over a stream, down and up. The step in numbers, the typed command and the payload part are asked at each
-// offset and must agree.
-use crate::heading::hold_heading_at;
-use crate::holding::fail;
-use crate::holding::hold;
-use crate::holding::hold_front;
-use crate::holding::hold_two;
-use payloads::DownlinkMacCommand;
+// Entries A0 to A5: the walk over a stream, an iterator's calls, and a command as a record, each down and up. At each offset of a walk
+// the step in numbers, the typed command and the payload part must agree.
+use crate::answer::Answer;
+use crate::fronts;
+use crate::reading::first;
+use crate::reading::from;
+use crate::reading::two;
+use build::Record;
 use payloads::PayloadBytes;
-use payloads::UplinkMacCommand;
 use table::Direction;
 use table::Rules;
 use walk::DownlinkStep;
@@ -16,234 +15,158 @@ use walk::Step;
 use walk::UplinkStep;
 use walk::WalkEnd;
 
-// How far the stream is walked, and how much of the answer is written.
-struct Reached {
-    at: usize,
-    told: usize,
-}
+// ---- The walk.
 
-fn hold_ending(wanted: &[u8], at: usize, how: u8, place: usize) -> usize {
-    let at = hold(wanted, at, how);
-    hold_two(wanted, at, place)
-}
-
-fn hold_outcome(wanted: &[u8], at: usize, outcome: Outcome) -> usize {
+fn told_ending(told: Answer, outcome: Outcome) -> Answer {
     match outcome {
-        Outcome::End(place) => hold_ending(wanted, at, 0, place),
-        Outcome::Stop { reason, at: place } => hold_ending(wanted, at, reason.number(), place),
-        Outcome::Refused(_) => fail(wanted, at),
+        Outcome::End(place) => told.byte(0).two(place),
+        Outcome::Stop { reason, at } => told.byte(reason.number()).two(at),
+        Outcome::Refused(reason) => told.byte(reason.number()),
     }
 }
 
-fn hold_walk(wanted: &[u8], end: WalkEnd) -> usize {
-    let at = hold_two(wanted, 0, end.count);
+fn told_walk(end: WalkEnd) -> Answer {
     let outcome = end.outcome;
-    hold_outcome(wanted, at, outcome)
+    told_ending(Answer::new().two(end.count), outcome)
 }
 
-// The step in numbers finds this command.
-fn steps_alike(rules: Rules, stream: &[u8], at: usize, cid: u8, len: usize, next: usize) -> bool {
-    match walk::step_at(rules, stream, at) {
-        Step::Command {
-            cid: its_cid,
-            len: its_len,
-            next: its_next,
-        } => its_cid == cid && its_len == len && its_next == next,
-        Step::End => false,
-        Step::Stop { reason: _, at: _ } => false,
-        Step::Refused(_) => false,
-    }
-}
-
-// The part of the stream holds these bytes, and no more.
-fn parts_alike(part: &[u8], five: &[u8], len: usize) -> bool {
-    if len <= five.len() {
-        check::same(part, &five[0..len])
+// The offset behind the command that the step in numbers finds.
+fn behind(rules: Rules, stream: &[u8], at: usize) -> usize {
+    let step = walk::step_at(rules, stream, at);
+    if let Step::Command {
+        cid: _,
+        len: _,
+        next,
+    } = step {
+        next
     } else {
-        false
+        at
     }
 }
 
-// A command's payload, and whether the step in numbers and the payload part say the same of it.
-fn hold_payload(
-    wanted: &[u8],
-    told: usize,
-    bytes: PayloadBytes,
-    alike: bool,
-    part: &[u8],
-) -> usize {
+// A command's payload, and the part of the stream that holds it.
+fn told_payload(told: Answer, bytes: PayloadBytes, part: &[u8]) -> Answer {
     let five = bytes.bytes;
-    let told = hold_front(wanted, told, &five, bytes.len);
-    if alike && parts_alike(part, &five, bytes.len) {
-        told
+    told.all(part)
+        .only_where(check::same(part, first(&five, bytes.len)))
+}
+
+fn down_at(stream: &[u8], at: usize) -> Answer {
+    let rules = Rules::new(Direction::Down);
+    let step = walk::downlink_at(stream, at);
+    if let DownlinkStep::Command(command, next) = step {
+        let told = Answer::new()
+            .two(at)
+            .heading(command.cid(), command.uplink(), command.len());
+        let told = told.only_where(next == behind(rules, stream, at));
+        told_payload(told, command.bytes(), walk::payload_at(rules, stream, at))
     } else {
-        fail(wanted, told)
+        Answer::new()
     }
 }
 
-// After the last command the step finds the walk's ending.
-fn ends_alike(rules: Rules, stream: &[u8], at: usize, outcome: Outcome) -> bool {
-    match walk::step_at(rules, stream, at) {
-        Step::End => match outcome {
-            Outcome::End(place) => place == at,
-            Outcome::Stop { reason: _, at: _ } => false,
-            Outcome::Refused(_) => false,
-        },
-        Step::Stop {
-            reason: why,
-            at: here,
-        } => match outcome {
-            Outcome::End(_) => false,
-            Outcome::Stop { reason, at: place } => place == here && reason.number() == why.number(),
-            Outcome::Refused(_) => false,
-        },
-        Step::Command {
-            cid: _,
-            len: _,
-            next: _,
-        } => false,
-        Step::Refused(_) => false,
+fn up_at(stream: &[u8], at: usize) -> Answer {
+    let rules = Rules::new(Direction::Up);
+    let step = walk::uplink_at(stream, at);
+    if let UplinkStep::Command(command, next) = step {
+        let told = Answer::new()
+            .two(at)
+            .heading(command.cid(), command.uplink(), command.len());
+        let told = told.only_where(next == behind(rules, stream, at));
+        told_payload(told, command.bytes(), walk::payload_at(rules, stream, at))
+    } else {
+        Answer::new()
     }
 }
 
-fn hold_end(wanted: &[u8], told: usize, alike: bool) -> usize {
-    if alike { told } else { fail(wanted, told) }
-}
-
-// ---- Down.
-
-fn rules_down() -> Rules {
-    Rules::new(Direction::Down)
-}
-
-fn down_command(
-    stream: &[u8],
-    from: Reached,
-    command: DownlinkMacCommand,
-    next: usize,
-    wanted: &[u8],
-) -> Reached {
-    let at = from.at;
-    let told = hold_two(wanted, from.told, at);
-    let told = hold_heading_at(wanted, told, command.cid(), command.uplink(), command.len());
-    let alike = steps_alike(rules_down(), stream, at, command.cid(), command.len(), next);
-    let told = hold_payload(
-        wanted,
-        told,
-        command.bytes(),
-        alike,
-        walk::payload_at(rules_down(), stream, at),
-    );
-    Reached { at: next, told }
-}
-
-fn down_step(stream: &[u8], from: Reached, wanted: &[u8]) -> Reached {
-    let at = from.at;
-    let told = from.told;
-    match walk::downlink_at(stream, at) {
-        DownlinkStep::Command(command, next) => down_command(stream, from, command, next, wanted),
-        DownlinkStep::End => Reached {
-            at,
-            told: fail(wanted, told),
-        },
-        DownlinkStep::Stop { reason: _, at: _ } => Reached {
-            at,
-            told: fail(wanted, told),
-        },
-        DownlinkStep::Refused(_) => Reached {
-            at,
-            told: fail(wanted, told),
-        },
+fn command_at(up: bool, stream: &[u8], at: usize) -> Answer {
+    if up {
+        up_at(stream, at)
+    } else {
+        down_at(stream, at)
     }
 }
 
-fn down_steps(stream: &[u8], count: usize, told: usize, wanted: &[u8]) -> Reached {
-    let mut reached = Reached { at: 0, told };
+fn commands(up: bool, stream: &[u8], count: usize, out: &mut [u8], told: usize) -> usize {
+    let rules = rules_of(up);
+    let mut end = told;
+    let mut at: usize = 0;
     let mut i: usize = 0;
     while i < count {
-        reached = down_step(stream, reached, wanted);
+        end = command_at(up, stream, at).put(out, end);
+        at = behind(rules, stream, at);
         i += 1;
     }
-    reached
+    end
 }
 
-pub(crate) fn down(stream: &[u8], wanted: &[u8]) -> usize {
-    let end = walk::walk(rules_down(), stream);
-    let outcome = end.outcome;
-    let told = hold_walk(wanted, end);
-    let reached = down_steps(stream, end.count, told, wanted);
-    hold_end(
-        wanted,
-        reached.told,
-        ends_alike(rules_down(), stream, reached.at, outcome),
-    )
-}
-
-// ---- Up.
-
-fn rules_up() -> Rules {
-    Rules::new(Direction::Up)
-}
-
-fn up_command(
-    stream: &[u8],
-    from: Reached,
-    command: UplinkMacCommand,
-    next: usize,
-    wanted: &[u8],
-) -> Reached {
-    let at = from.at;
-    let told = hold_two(wanted, from.told, at);
-    let told = hold_heading_at(wanted, told, command.cid(), command.uplink(), command.len());
-    let alike = steps_alike(rules_up(), stream, at, command.cid(), command.len(), next);
-    let told = hold_payload(
-        wanted,
-        told,
-        command.bytes(),
-        alike,
-        walk::payload_at(rules_up(), stream, at),
-    );
-    Reached { at: next, told }
-}
-
-fn up_step(stream: &[u8], from: Reached, wanted: &[u8]) -> Reached {
-    let at = from.at;
-    let told = from.told;
-    match walk::uplink_at(stream, at) {
-        UplinkStep::Command(command, next) => up_command(stream, from, command, next, wanted),
-        UplinkStep::End => Reached {
-            at,
-            told: fail(wanted, told),
-        },
-        UplinkStep::Stop { reason: _, at: _ } => Reached {
-            at,
-            told: fail(wanted, told),
-        },
-        UplinkStep::Refused(_) => Reached {
-            at,
-            told: fail(wanted, told),
-        },
+fn rules_of(up: bool) -> Rules {
+    if up {
+        Rules::new(Direction::Up)
+    } else {
+        Rules::new(Direction::Down)
     }
 }
 
-fn up_steps(stream: &[u8], count: usize, told: usize, wanted: &[u8]) -> Reached {
-    let mut reached = Reached { at: 0, told };
+fn whole(up: bool, stream: &[u8], out: &mut [u8]) -> usize {
+    let end = walk::walk(rules_of(up), stream);
+    let told = told_walk(end).put(out, 0);
+    commands(up, stream, end.count, out, told)
+}
+
+// ---- An iterator's calls, so many as the input says.
+
+fn told_step(step: Step) -> Answer {
+    match step {
+        Step::End => Answer::new().byte(0).four(0),
+        Step::Command { cid, len, next } => Answer::new().byte(3).byte(cid).length(len).two(next),
+        Step::Stop { reason, at } => Answer::new().byte(reason.number()).two(0).two(at),
+        Step::Refused(reason) => Answer::new().byte(reason.number()),
+    }
+}
+
+fn calls(up: bool, stream: &[u8], count: usize, out: &mut [u8]) -> usize {
+    let mut end: usize = 0;
     let mut i: usize = 0;
     while i < count {
-        reached = up_step(stream, reached, wanted);
+        end = told_step(fronts::nth_step(up, stream, i)).put(out, end);
         i += 1;
     }
-    reached
+    end
 }
 
-pub(crate) fn up(stream: &[u8], wanted: &[u8]) -> usize {
-    let end = walk::walk(rules_up(), stream);
-    let outcome = end.outcome;
-    let told = hold_walk(wanted, end);
-    let reached = up_steps(stream, end.count, told, wanted);
-    hold_end(
-        wanted,
-        reached.told,
-        ends_alike(rules_up(), stream, reached.at, outcome),
-    )
+fn iterator(up: bool, input: &[u8], out: &mut [u8]) -> usize {
+    calls(up, from(input, 2), two(input), out)
+}
+
+// ---- The command at the stream's front, as a record.
+
+fn down_record(stream: &[u8]) -> Answer {
+    let step = walk::downlink_at(stream, 0);
+    if let DownlinkStep::Command(command, _) = step {
+        Answer::new().record(Record::of_downlink(command))
+    } else {
+        Answer::new()
+    }
+}
+
+fn up_record(stream: &[u8]) -> Answer {
+    let step = walk::uplink_at(stream, 0);
+    if let UplinkStep::Command(command, _) = step {
+        Answer::new().record(Record::of_uplink(command))
+    } else {
+        Answer::new()
+    }
+}
+
+pub(crate) fn answer(which: u8, input: &[u8], out: &mut [u8]) -> usize {
+    match which {
+        0 => whole(false, input, out),
+        1 => whole(true, input, out),
+        2 => iterator(false, input, out),
+        3 => iterator(true, input, out),
+        4 => down_record(input).put(out, 0),
+        5 => up_record(input).put(out, 0),
+        _ => 0,
+    }
 }

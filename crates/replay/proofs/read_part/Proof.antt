@@ -7,10 +7,10 @@ use Rattle.replay.proofs.read_part.Statement.{statement}
 use Rattle.replay.proofs.read_part.Tie as tie
 
 abbrev Inv-loop : tie.InvT-loop
-Inv-loop part bytes₀ records₀ buffer₀ entries₀ state₀ i₀ bytes records buffer entries state i = (i ≤ length part) × (length bytes ≡ length bytes₀) × (length records ≡ length records₀) × (length buffer ≡ length buffer₀) × (length entries ≡ length entries₀)
+Inv-loop part bytes₀ out₀ state₀ i₀ bytes out state i = (i ≤ length part) × (length bytes ≡ length bytes₀) × (length out ≡ length out₀)
 
 abbrev μ-loop : tie.MeasureT-loop
-μ-loop part bytes₀ records₀ buffer₀ entries₀ state₀ i₀ bytes records buffer entries state i = length part - i
+μ-loop part bytes₀ out₀ state₀ i₀ bytes out state i = length part - i
 
 loop-holds : tie.Need-loop-holds Inv-loop μ-loop
 loop-holds c = search needs
@@ -36,12 +36,6 @@ same-length c = search needs
 same-length-2 : tie.Need-same-length-2 Inv-loop μ-loop
 same-length-2 c = search needs
 
-same-length-3 : tie.Need-same-length-3 Inv-loop μ-loop
-same-length-3 c = search needs
-
-same-length-4 : tie.Need-same-length-4 Inv-loop μ-loop
-same-length-4 c = search needs
-
 returns : tie.Need-returns Inv-loop μ-loop
 returns c = search needs
 
@@ -59,6 +53,4 @@ read-part-spec =
     loop-again
     same-length
     same-length-2
-    same-length-3
-    same-length-4
     returns)

@@ -6,10 +6,10 @@ use Rattle.replay.proofs.replay.Statement.{statement}
 use Rattle.replay.proofs.replay.Tie as tie
 
 abbrev Inv-loop : tie.InvT-loop
-Inv-loop part₀ bytes₀ records₀ buffer₀ entries₀ state₀ turns₀ part bytes records buffer entries state turns = (length part ≡ length part₀) × (length bytes ≡ length bytes₀) × (length records ≡ length records₀) × (length buffer ≡ length buffer₀) × (length entries ≡ length entries₀)
+Inv-loop part₀ bytes₀ out₀ state₀ turns₀ part bytes out state turns = (length part ≡ length part₀) × (length bytes ≡ length bytes₀) × (length out ≡ length out₀)
 
 abbrev μ-loop : tie.MeasureT-loop
-μ-loop part₀ bytes₀ records₀ buffer₀ entries₀ state₀ turns₀ part bytes records buffer entries state turns = turns
+μ-loop part₀ bytes₀ out₀ state₀ turns₀ part bytes out state turns = turns
 
 new-requires : tie.Need-new-requires Inv-loop μ-loop
 new-requires c κs = search needs
@@ -41,12 +41,6 @@ same-length-2 c = search needs
 same-length-3 : tie.Need-same-length-3 Inv-loop μ-loop
 same-length-3 c = search needs
 
-same-length-4 : tie.Need-same-length-4 Inv-loop μ-loop
-same-length-4 c = search needs
-
-same-length-5 : tie.Need-same-length-5 Inv-loop μ-loop
-same-length-5 c = search needs
-
 returns : tie.Need-returns Inv-loop μ-loop
 returns c = search needs
 
@@ -66,6 +60,4 @@ replay-spec =
     same-length
     same-length-2
     same-length-3
-    same-length-4
-    same-length-5
     returns)

@@ -1,24 +1,24 @@
--- `hold_all` is safe and ends. Assumes nothing.
+-- `all` is safe and ends. Assumes nothing.
 use Prim.Native.Nat.{_≤_, _-_}
 use lib.ListN.{length}
 use borrow.Author.Needs.{needs}
-use Rattle.replay.proofs.holding.hold_all.Statement.{statement}
-use Rattle.replay.proofs.holding.hold_all.Tie as tie
+use Rattle.replay.proofs.answer.Answer.all.Statement.{statement}
+use Rattle.replay.proofs.answer.Answer.all.Tie as tie
 
 abbrev Inv-loop : tie.InvT-loop
-Inv-loop wanted at bytes end₀ i₀ end i = i ≤ length bytes
+Inv-loop bytes told₀ i₀ told i = i ≤ length bytes
 
 abbrev μ-loop : tie.MeasureT-loop
-μ-loop wanted at bytes end₀ i₀ end i = length bytes - i
+μ-loop bytes told₀ i₀ told i = length bytes - i
 
 loop-holds : tie.Need-loop-holds Inv-loop μ-loop
 loop-holds c = search needs
 
-shared-slice-read-hold : tie.Need-shared-slice-read-hold Inv-loop μ-loop
-shared-slice-read-hold c = search needs
+shared-slice-read-byte : tie.Need-shared-slice-read-byte Inv-loop μ-loop
+shared-slice-read-byte c = search needs
 
-hold-requires : tie.Need-hold-requires Inv-loop μ-loop
-hold-requires c κs = search needs
+byte-requires : tie.Need-byte-requires Inv-loop μ-loop
+byte-requires c κs = search needs
 
 add-i : tie.Need-add-i Inv-loop μ-loop
 add-i c = search needs
@@ -32,15 +32,15 @@ loop-again c = search needs
 returns : tie.Need-returns Inv-loop μ-loop
 returns c = search needs
 
-pub hold-all-spec : {M : Type 1} → statement M
-hold-all-spec =
+pub all-spec : {M : Type 1} → statement M
+all-spec =
     tie.close
     (tie.spec
     Inv-loop
     μ-loop
     loop-holds
-    shared-slice-read-hold
-    hold-requires
+    shared-slice-read-byte
+    byte-requires
     add-i
     loop-less
     loop-again
