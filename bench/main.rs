@@ -20,7 +20,7 @@ mod rng;
 use inputs::{wishes, Order, Streams, Wish};
 use maccommands::SerializableMacCommand;
 use std::cell::RefCell;
-use std::fmt::Debug;
+use std::fmt::{Debug, Formatter};
 use std::hint::black_box;
 use std::process::exit;
 use std::time::Instant;
@@ -46,11 +46,12 @@ enum Work {
     Set,
     SetStructs,
     Resend,
+    Hosted,
     Packed,
 }
 
 impl Work {
-    const ALL: [Work; 8] = [
+    const ALL: [Work; 9] = [
         Work::Count,
         Work::CountDamaged,
         Work::Iterate,
@@ -58,6 +59,7 @@ impl Work {
         Work::Set,
         Work::SetStructs,
         Work::Resend,
+        Work::Hosted,
         Work::Packed,
     ];
 
@@ -70,6 +72,7 @@ impl Work {
             Work::Set => "set",
             Work::SetStructs => "set-structs",
             Work::Resend => "resend",
+            Work::Hosted => "hosted",
             Work::Packed => "packed",
         }
     }
@@ -79,7 +82,7 @@ impl Work {
         match self {
             Work::Count | Work::Iterate | Work::Fields => [Some(MEGABYTE), Some(242), Some(15)],
             Work::CountDamaged => [None, Some(242), Some(15)],
-            Work::Set | Work::Resend | Work::Packed => [Some(4096), Some(64), Some(4)],
+            Work::Set | Work::Resend | Work::Hosted | Work::Packed => [Some(4096), Some(64), Some(4)],
             Work::SetStructs => [None, None, Some(4)],
         }
     }
@@ -136,7 +139,8 @@ impl Case {
                 };
                 self.over_lists(streams, rust, port::resend)
             }
-            Work::Packed => self.packed(seed),
+            Work::Hosted => self.over_lists(self.made(seed), on_objects, |list, slots, out| port::hosted(&list.objects, slots, out)),
+            Work::Packed => self.over_lists(self.made(seed), on_objects, |list, _, out| port::build(&list.slots, out)),
         }
     }
 
@@ -192,40 +196,38 @@ impl Case {
         Ready { commands: COMMANDS, rust: Box::new(rust), rattle: Box::new(rattle) }
     }
 
-    /// Creators that stand ready beside slots that stand ready.
-    fn packed(self, seed: u64) -> Ready {
-        struct List {
-            objects: Vec<&'static dyn SerializableMacCommand>,
-            slots: Vec<u8>,
-        }
-        impl Debug for List {
-            fn fmt(&self, f: &mut std::fmt::Formatter) -> std::fmt::Result {
-                self.slots.fmt(f)
-            }
-        }
-        let list = |wishes: &'static Vec<Wish>| {
-            let creators = wishes.iter().map(original::creator).collect::<Vec<_>>().leak();
-            let slots = creators.iter().flat_map(slot).collect();
-            &*Box::leak(Box::new(List { objects: creators.iter().map(|creator| creator as _).collect(), slots }))
+    /// Creators that are made and set, and their slots.
+    fn made(self, seed: u64) -> Vec<&'static Made> {
+        let made = |wishes: &'static Vec<Wish>| {
+            let creators: &'static [_] = wishes.iter().map(original::creator).collect::<Vec<_>>().leak();
+            let objects: Vec<&dyn SerializableMacCommand> = creators.iter().map(|creator| creator as _).collect();
+            let mut slots = vec![0; 8 * objects.len()];
+            port::pack(&objects, &mut slots);
+            &*Box::leak(Box::new(Made { objects, slots }))
         };
-        let lists = self.lists(seed).iter().map(list).collect();
-        self.over_lists(lists, |list, out| original::build(&list.objects, out), |list, _, out| port::build(&list.slots, out))
+        self.lists(seed).iter().map(made).collect()
     }
+}
+
+/// A list that stands ready: as objects for the Rust, and packed.
+struct Made {
+    objects: Vec<&'static dyn SerializableMacCommand>,
+    slots: Vec<u8>,
+}
+
+impl Debug for Made {
+    fn fmt(&self, f: &mut Formatter) -> std::fmt::Result {
+        self.slots.fmt(f)
+    }
+}
+
+fn on_objects(list: &Made, out: &mut [u8]) -> u64 {
+    original::build(&list.objects, out)
 }
 
 /// The stream that the creators of these wishes make.
 fn stream(wishes: &Vec<Wish>) -> Vec<u8> {
     wishes.iter().flat_map(|wish| original::creator(wish).build().to_vec()).collect()
-}
-
-/// A command in a slot of eight bytes: CID, length, and payload.
-fn slot<T: SerializableMacCommand>(command: &T) -> [u8; 8] {
-    let payload = command.payload_bytes();
-    let mut slot = [0; 8];
-    slot[0] = command.cid();
-    slot[1] = payload.len() as u8;
-    slot[2..2 + payload.len()].copy_from_slice(payload);
-    slot
 }
 
 /// A case with its inputs: what each side does with all of them, one after the other.

@@ -1,6 +1,7 @@
 //! The port: the crates `exports`, `timed_reads` and `timed_builds`, linked as archives. A slice crosses as its pointer and its length.
 
 use crate::inputs::Wish;
+use crate::maccommands::SerializableMacCommand;
 
 extern "C" {
     fn nazhdivar_count(stream: *const u8, len: usize) -> usize;
@@ -31,6 +32,22 @@ pub fn fields(stream: &[u8], _: usize) -> u64 {
 #[inline(never)]
 pub fn build(records: &[u8], out: &mut [u8]) -> u64 {
     unsafe { nazhdivar_build(records.as_ptr(), records.len(), out.as_mut_ptr(), out.len()) }
+}
+
+/// What a host in Rust does with the Rust's own objects: it packs each into a slot, CID, length and payload, and hands the slots over.
+#[inline(never)]
+pub fn hosted(objects: &[&dyn SerializableMacCommand], slots: &mut [u8], out: &mut [u8]) -> u64 {
+    pack(objects, slots);
+    build(slots, out)
+}
+
+pub fn pack(objects: &[&dyn SerializableMacCommand], slots: &mut [u8]) {
+    for (object, slot) in objects.iter().zip(slots.chunks_exact_mut(8)) {
+        let payload = object.payload_bytes();
+        slot[0] = object.cid();
+        slot[1] = payload.len() as u8;
+        slot[2..2 + payload.len()].copy_from_slice(payload);
+    }
 }
 
 /// Records are packed into slots, which are scratch.
