@@ -1,7 +1,5 @@
-//! What both sides are given: streams of valid commands that a device is sent, and lists of records of such commands.
+//! What both sides are given: streams of commands that a device is sent, and lists of such commands to be built.
 
-use crate::maccommands::SerializableMacCommand;
-use crate::original::creator;
 use crate::rng::Rng;
 
 /// Each CID, with the bytes of its payload.
@@ -50,63 +48,80 @@ impl Source {
     }
 }
 
+/// How many commands a stream hands out, and how many bytes the one that it stops at lacks: 0 at its end and at a byte that is no CID.
+fn walked(stream: &[u8]) -> (usize, usize) {
+    let (mut at, mut count) = (0, 0);
+    while at < stream.len() {
+        let Some(&(_, len)) = DOWN.iter().find(|(cid, _)| *cid == stream[at]) else { return (count, 0) };
+        at += 1 + len;
+        if at > stream.len() {
+            return (count, at - stream.len());
+        }
+        count += 1;
+    }
+    (count, 0)
+}
+
 /// Streams, one behind the other in memory.
 pub struct Streams {
     bytes: Vec<u8>,
-    ends: Vec<usize>,
-    pub commands: usize,
+    /// Of each stream, where it ends and how many commands it hands out.
+    ends: Vec<(usize, usize)>,
 }
 
 impl Streams {
     /// So many streams, each of as many commands as fit into `most` bytes.
-    pub fn new(seed: u64, order: Order, count: usize, most: usize) -> Streams {
-        let mut source = Source::new(seed, order);
-        let mut made = Streams { bytes: Vec::new(), ends: Vec::new(), commands: 0 };
-        for _ in 0..count {
-            let start = made.bytes.len();
-            while let Some(command) = source.next(most - (made.bytes.len() - start)) {
-                made.bytes.extend(command);
-                made.commands += 1;
+    pub fn whole(seed: u64, order: Order, count: usize, most: usize) -> Streams {
+        Streams::made(seed, order, count, most, |_, stream| stream)
+    }
+
+    /// The same, each cut at a place by chance, or with a byte by chance at a place by chance. Where the last payload lacks one byte, the
+    /// Rust ends with a panic: such streams are drawn again.
+    pub fn damaged(seed: u64, order: Order, count: usize, most: usize) -> Streams {
+        Streams::made(seed, order, count, most, |rng, stream| loop {
+            let (mut damaged, at) = (stream.clone(), rng.below(stream.len()));
+            match rng.below(2) {
+                0 => damaged.truncate(at),
+                _ => damaged[at] = rng.below(256) as u8,
             }
-            made.ends.push(made.bytes.len());
-        }
-        made
+            if walked(&damaged).1 != 1 {
+                return damaged;
+            }
+        })
     }
 
-    pub fn each(&self) -> impl Iterator<Item = &[u8]> {
-        let starts = std::iter::once(0).chain(self.ends.iter().copied());
-        starts.zip(&self.ends).map(|(start, &end)| &self.bytes[start..end])
-    }
-}
-
-/// Lists of records, all of one length, in three forms that say the same.
-pub struct Lists {
-    pub length: usize,
-    /// For the Rust: each record as a creator.
-    pub creators: Vec<Box<dyn SerializableMacCommand>>,
-    /// For the port: each in eight bytes.
-    pub packed: Vec<u8>,
-    /// The stream that the creators make, for the Rust to read commands from.
-    pub stream: Vec<u8>,
-}
-
-impl Lists {
-    pub fn new(seed: u64, order: Order, count: usize, length: usize) -> Lists {
+    fn made(seed: u64, order: Order, count: usize, most: usize, harm: fn(&mut Rng, Vec<u8>) -> Vec<u8>) -> Streams {
         let mut source = Source::new(seed, order);
-        let mut made = Lists { length, creators: Vec::new(), packed: Vec::new(), stream: Vec::new() };
-        for _ in 0..count * length {
-            let command = source.next(6).expect("no command has more");
-            let creator = creator(command[0], &command[1..]);
-            let payload = creator.payload_bytes();
-            let mut slot = [0; 8];
-            slot[0] = creator.cid();
-            slot[1] = payload.len() as u8;
-            slot[2..2 + payload.len()].copy_from_slice(payload);
-            made.packed.extend(slot);
-            made.stream.push(creator.cid());
-            made.stream.extend(payload);
-            made.creators.push(creator);
+        let mut made = Streams { bytes: Vec::new(), ends: Vec::new() };
+        for _ in 0..count {
+            let mut stream = Vec::new();
+            while let Some(command) = source.next(most - stream.len()) {
+                stream.extend(command);
+            }
+            let stream = harm(&mut source.rng, stream);
+            made.bytes.extend(&stream);
+            made.ends.push((made.bytes.len(), walked(&stream).0));
         }
         made
     }
+
+    /// Each stream, and how many commands it hands out.
+    pub fn each(&self) -> impl Iterator<Item = (&[u8], usize)> {
+        let starts = std::iter::once(0).chain(self.ends.iter().map(|&(end, _)| end));
+        starts.zip(&self.ends).map(|(start, &(end, commands))| (&self.bytes[start..end], commands))
+    }
+}
+
+/// A command that is wanted: its CID, and five bytes from which its creator's fields are set.
+pub type Wish = [u8; 6];
+
+/// Lists of so many commands each, one behind the other.
+pub fn wishes(seed: u64, order: Order, count: usize, length: usize) -> Vec<Wish> {
+    let mut source = Source::new(seed, order);
+    let mut wish = || {
+        let mut command = source.next(6).expect("no command has more");
+        command.resize(6, 0);
+        command.try_into().expect("six bytes")
+    };
+    (0..count * length).map(|_| wish()).collect()
 }

@@ -16,57 +16,82 @@ mod port;
 #[path = "../oracle/rng.rs"]
 #[allow(dead_code)]
 mod rng;
-mod trials;
 
-use inputs::{Lists, Order, Streams};
-use maccommands::{parse_downlink_mac_commands, SerializableMacCommand};
+use inputs::{wishes, Order, Streams, Wish};
+use maccommands::SerializableMacCommand;
 use std::cell::RefCell;
+use std::fmt::{Debug, Formatter};
 use std::hint::black_box;
 use std::process::exit;
 use std::time::Instant;
 
 const USAGE: &str = "usage: bench COMMAND
   table SEED ROUNDS            times every case, each side ROUNDS times, and prints the least
-  trials SEED ROUNDS           times other ways to count and to read every field
   cases SEED                   each case's name and the number of its commands
   one SEED CASE SIDE TIMES     runs a case on one side, `rust` or `rattle`, so many times";
 
 /// Streams are made until they have about a megabyte, so that no branch predictor can learn a case by heart.
 const MEGABYTE: usize = 1_000_000;
 
-/// So many records are in the lists of a case, all together.
-const RECORDS: usize = 16_384;
+/// So many commands are in the lists of a case, all together.
+const COMMANDS: usize = 16_384;
 
-#[derive(Clone, Copy)]
+/// What is done with a stream, or with a list of commands.
+#[derive(Clone, Copy, PartialEq)]
 enum Work {
     Count,
+    CountDamaged,
+    Iterate,
     Fields,
-    /// The Rust is given creators, each of its own type.
-    Build,
-    /// The Rust is given commands that it read from a stream, all of one type.
+    Set,
+    SetStructs,
     Resend,
+    Hosted,
+    Packed,
 }
 
 impl Work {
+    const ALL: [Work; 9] = [
+        Work::Count,
+        Work::CountDamaged,
+        Work::Iterate,
+        Work::Fields,
+        Work::Set,
+        Work::SetStructs,
+        Work::Resend,
+        Work::Hosted,
+        Work::Packed,
+    ];
+
     fn name(self) -> &'static str {
         match self {
             Work::Count => "count",
+            Work::CountDamaged => "count-damaged",
+            Work::Iterate => "iterate",
             Work::Fields => "fields",
-            Work::Build => "build",
+            Work::Set => "set",
+            Work::SetStructs => "set-structs",
             Work::Resend => "resend",
+            Work::Hosted => "hosted",
+            Work::Packed => "packed",
         }
     }
 
-    /// What a size counts.
-    fn unit(self) -> &'static str {
+    /// The most bytes of a stream, or the commands of a list: large, middle and small.
+    fn sizes(self) -> [Option<usize>; 3] {
         match self {
-            Work::Count | Work::Fields => "bytes",
-            Work::Build | Work::Resend => "records",
+            Work::Count | Work::Iterate | Work::Fields => [Some(MEGABYTE), Some(242), Some(15)],
+            Work::CountDamaged => [None, Some(242), Some(15)],
+            Work::Set | Work::Resend | Work::Hosted | Work::Packed => [Some(4096), Some(64), Some(4)],
+            Work::SetStructs => [None, None, Some(4)],
         }
     }
 }
 
-/// A kind of work on inputs of one size: at most so many bytes of a stream, or so many records.
+/// What a side does with a stream, of which it is told how many commands it hands out.
+type OnStream = fn(&[u8], usize) -> u64;
+
+/// A kind of work on inputs of one size, in one order.
 #[derive(Clone, Copy)]
 struct Case {
     work: Work,
@@ -75,59 +100,134 @@ struct Case {
 }
 
 impl Case {
-    fn all() -> Vec<Case> {
-        let mut all = Vec::new();
-        let (streams, lists) = ([MEGABYTE, 242, 15], [4096, 64, 4]);
-        for (work, sizes) in [(Work::Count, streams), (Work::Fields, streams), (Work::Build, lists), (Work::Resend, lists)] {
-            for size in sizes {
-                for order in [Order::Chance, Order::Cycle] {
-                    all.push(Case { work, size, order });
-                }
-            }
-        }
-        all
+    /// The cases of a kind of work, from large to small; none where it has no such size.
+    fn of(work: Work) -> Vec<Option<Case>> {
+        let at = |size: Option<usize>, order| size.map(|size| Case { work, size, order });
+        work.sizes().into_iter().flat_map(|size| [at(size, Order::Chance), at(size, Order::Cycle)]).collect()
     }
 
-    fn named(name: &str) -> Option<Case> {
-        Case::all().into_iter().find(|case| case.name() == name)
+    fn all() -> impl Iterator<Item = Case> {
+        Work::ALL.into_iter().flat_map(Case::of).flatten()
     }
 
     fn name(self) -> String {
         format!("{}-{}-{}", self.work.name(), self.size, self.order.name())
     }
 
-    /// The ratio of the times that is aimed at.
-    fn bar(self) -> f64 {
-        match self.work {
-            Work::Count => 0.45,
-            Work::Fields => 0.62,
-            Work::Build | Work::Resend => 0.55,
-        }
-    }
-
     fn ready(self, seed: u64) -> Ready {
         match self.work {
-            Work::Count => over_streams(self.streams(seed), original::count, port::count),
-            Work::Fields => over_streams(self.streams(seed), original::fields, port::fields),
-            Work::Build => {
-                let lists = self.lists(seed);
-                over_lists(lists, lists.creators.iter().map(|creator| &**creator).collect())
+            Work::Count => self.over_streams(Streams::whole, seed, original::count, port::count),
+            Work::CountDamaged => self.over_streams(Streams::damaged, seed, original::count, port::count),
+            Work::Iterate => self.over_streams(Streams::whole, seed, original::nth, port::nth),
+            Work::Fields => self.over_streams(Streams::whole, seed, original::fields, port::fields),
+            Work::Set | Work::SetStructs => {
+                let lists = self.lists(seed).iter().map(|list| list.as_slice()).collect();
+                let rust = match self.size {
+                    4096 => original::set::<4096>,
+                    64 => original::set::<64>,
+                    _ => original::set::<4>,
+                };
+                let rattle = if self.work == Work::Set { port::set } else { port::set_four };
+                self.over_lists(lists, rust, rattle)
             }
             Work::Resend => {
-                let lists = self.lists(seed);
-                let commands: &'static mut [_] = parse_downlink_mac_commands(&lists.stream).collect::<Vec<_>>().leak();
-                over_lists(lists, commands.iter().map(|command| command as _).collect())
+                let streams = self.lists(seed).iter().map(|list| &*Vec::leak(stream(list))).collect();
+                let rust = match self.size {
+                    4096 => original::resend::<4096>,
+                    64 => original::resend::<64>,
+                    _ => original::resend::<4>,
+                };
+                self.over_lists(streams, rust, port::resend)
             }
+            Work::Hosted => self.over_lists(self.made(seed), on_objects, |list, slots, out| port::hosted(&list.objects, slots, out)),
+            Work::Packed => self.over_lists(self.made(seed), on_objects, |list, _, out| port::build(&list.slots, out)),
         }
     }
 
-    fn streams(self, seed: u64) -> &'static Streams {
-        Box::leak(Box::new(Streams::new(seed, self.order, MEGABYTE / self.size, self.size)))
+    fn over_streams(self, made: fn(u64, Order, usize, usize) -> Streams, seed: u64, rust: OnStream, rattle: OnStream) -> Ready {
+        let streams: &'static Streams = Box::leak(Box::new(made(seed, self.order, MEGABYTE / self.size, self.size)));
+        for (stream, n) in streams.each() {
+            same(rust(stream, n), rattle(stream, n), stream);
+        }
+        let side = |side: OnStream| {
+            Box::new(move || {
+                let side = black_box(side);
+                for (stream, n) in streams.each() {
+                    black_box(side(black_box(stream), black_box(n)));
+                }
+            })
+        };
+        Ready { commands: streams.each().map(|(_, n)| n).sum(), rust: side(rust), rattle: side(rattle) }
     }
 
-    fn lists(self, seed: u64) -> &'static Lists {
-        Box::leak(Box::new(Lists::new(seed, self.order, RECORDS / self.size, self.size)))
+    fn lists(self, seed: u64) -> &'static [Vec<Wish>] {
+        let all = wishes(seed, self.order, COMMANDS / self.size, self.size);
+        Vec::leak(all.chunks(self.size).map(|list| list.to_vec()).collect())
     }
+
+    /// Each list is handed to both sides as it is; the port has scratch for its slots.
+    fn over_lists<T: ?Sized + Debug>(
+        self,
+        lists: Vec<&'static T>,
+        rust: fn(&T, &mut [u8]) -> u64,
+        rattle: fn(&T, &mut [u8], &mut [u8]) -> u64,
+    ) -> Ready {
+        let (lists, size): (&'static [&'static T], usize) = (lists.leak(), self.size);
+        let (mut slots, mut one, mut other) = (vec![0; 8 * size], vec![0; 6 * size], vec![0; 6 * size]);
+        for list in lists {
+            same(rust(list, &mut one), rattle(list, &mut slots, &mut other), list);
+            same(&one, &other, list);
+        }
+        let room = RefCell::new(one);
+        let rust = move || {
+            let rust = black_box(rust);
+            for list in lists {
+                black_box(rust(black_box(list), black_box(&mut room.borrow_mut())));
+            }
+        };
+        let room = RefCell::new((slots, other));
+        let rattle = move || {
+            let rattle = black_box(rattle);
+            let (slots, out) = &mut *room.borrow_mut();
+            for list in lists {
+                black_box(rattle(black_box(list), black_box(slots), black_box(out)));
+            }
+        };
+        Ready { commands: COMMANDS, rust: Box::new(rust), rattle: Box::new(rattle) }
+    }
+
+    /// Creators that are made and set, and their slots.
+    fn made(self, seed: u64) -> Vec<&'static Made> {
+        let made = |wishes: &'static Vec<Wish>| {
+            let creators: &'static [_] = wishes.iter().map(original::creator).collect::<Vec<_>>().leak();
+            let objects: Vec<&dyn SerializableMacCommand> = creators.iter().map(|creator| creator as _).collect();
+            let mut slots = vec![0; 8 * objects.len()];
+            port::pack(&objects, &mut slots);
+            &*Box::leak(Box::new(Made { objects, slots }))
+        };
+        self.lists(seed).iter().map(made).collect()
+    }
+}
+
+/// A list that stands ready: as objects for the Rust, and packed.
+struct Made {
+    objects: Vec<&'static dyn SerializableMacCommand>,
+    slots: Vec<u8>,
+}
+
+impl Debug for Made {
+    fn fmt(&self, f: &mut Formatter) -> std::fmt::Result {
+        self.slots.fmt(f)
+    }
+}
+
+fn on_objects(list: &Made, out: &mut [u8]) -> u64 {
+    original::build(&list.objects, out)
+}
+
+/// The stream that the creators of these wishes make.
+fn stream(wishes: &Vec<Wish>) -> Vec<u8> {
+    wishes.iter().flat_map(|wish| original::creator(wish).build().to_vec()).collect()
 }
 
 /// A case with its inputs: what each side does with all of them, one after the other.
@@ -137,47 +237,10 @@ struct Ready {
     rattle: Box<dyn Fn()>,
 }
 
-fn over_streams(streams: &'static Streams, rust: fn(&[u8]) -> u64, rattle: fn(&[u8]) -> u64) -> Ready {
-    for stream in streams.each() {
-        same(rust(stream), rattle(stream), stream);
-    }
-    Ready { commands: streams.commands, rust: Box::new(move || each(streams, rust)), rattle: Box::new(move || each(streams, rattle)) }
-}
-
-fn each(streams: &Streams, side: fn(&[u8]) -> u64) {
-    let side = black_box(side);
-    for stream in streams.each() {
-        black_box(side(black_box(stream)));
-    }
-}
-
-fn over_lists(lists: &'static Lists, objects: Vec<&'static dyn SerializableMacCommand>) -> Ready {
-    let (commands, objects): (usize, &'static [_]) = (objects.len(), objects.leak());
-    let (slots, room) = (8 * lists.length, 6 * lists.length);
-    for (list, packed) in objects.chunks(lists.length).zip(lists.packed.chunks(slots)) {
-        let (mut one, mut other) = (vec![0; room], vec![0; room]);
-        same(original::build(list, &mut one), port::build(packed, &mut other), packed);
-        same(one, other, packed);
-    }
-    let out = RefCell::new(vec![0; room]);
-    let rust = move || {
-        for list in objects.chunks(lists.length) {
-            black_box(original::build(black_box(list), black_box(&mut out.borrow_mut())));
-        }
-    };
-    let out = RefCell::new(vec![0; room]);
-    let rattle = move || {
-        for packed in lists.packed.chunks(slots) {
-            black_box(port::build(black_box(packed), black_box(&mut out.borrow_mut())));
-        }
-    };
-    Ready { commands, rust: Box::new(rust), rattle: Box::new(rattle) }
-}
-
 /// Both sides gave the same answer.
-fn same<T: PartialEq + std::fmt::Debug>(rust: T, rattle: T, input: &[u8]) {
+fn same<T: PartialEq + Debug>(rust: T, rattle: T, input: &(impl Debug + ?Sized)) {
     if rust != rattle {
-        eprintln!("bench: the Rust answers {rust:?} and the port {rattle:?} to {input:02X?}");
+        eprintln!("bench: the Rust answers {rust:02X?} and the port {rattle:02X?} to {input:02X?}");
         exit(1);
     }
 }
@@ -188,59 +251,32 @@ fn nanoseconds(side: &dyn Fn()) -> f64 {
     start.elapsed().as_nanos() as f64
 }
 
-fn table(seed: u64, rounds: usize) {
-    let cases: Vec<(Case, Ready)> = Case::all().into_iter().map(|case| (case, case.ready(seed))).collect();
-    let mut least = vec![(f64::INFINITY, f64::INFINITY); cases.len()];
+/// The least time of each side, a command.
+fn timed(ready: &Ready, rounds: usize) -> (f64, f64) {
+    let (mut rust, mut rattle) = (f64::INFINITY, f64::INFINITY);
     for round in 0..rounds {
-        for ((_, ready), (rust, rattle)) in cases.iter().zip(&mut least) {
-            // Whoever comes second finds the input in the cache, so they take turns.
-            if round % 2 == 0 {
-                *rust = rust.min(nanoseconds(&ready.rust));
-            }
-            *rattle = rattle.min(nanoseconds(&ready.rattle));
-            if round % 2 == 1 {
-                *rust = rust.min(nanoseconds(&ready.rust));
-            }
+        // Whoever comes second finds the input in the cache, so they take turns.
+        if round % 2 == 0 {
+            rust = rust.min(nanoseconds(&ready.rust));
+        }
+        rattle = rattle.min(nanoseconds(&ready.rattle));
+        if round % 2 == 1 {
+            rust = rust.min(nanoseconds(&ready.rust));
         }
     }
-    println!("{:<7} {:<7} {:>15} {:>7} {:>7} {:>6} {:>5}", "work", "order", "size", "Rust", "Rattle", "ratio", "bar");
-    for ((case, ready), (rust, rattle)) in cases.iter().zip(least) {
-        let (rust, rattle, ratio) = (rust / ready.commands as f64, rattle / ready.commands as f64, rattle / rust);
-        let verdict = if ratio <= case.bar() { "met" } else { "missed" };
-        let (work, order, size) = (case.work.name(), case.order.name(), format!("{} {}", case.size, case.work.unit()));
-        println!("{work:<7} {order:<7} {size:>15} {rust:>7.2} {rattle:>7.2} {ratio:>6.2} {:>5.2} {verdict}", case.bar());
-    }
+    (rust / ready.commands as f64, rattle / ready.commands as f64)
 }
 
-/// The sides of a case, and the other ways to do its work.
-fn ways(work: Work) -> Vec<(&'static str, fn(&[u8]) -> u64)> {
-    let (rust, rattle, others): (_, _, &[_]) = match work {
-        Work::Count => (original::count as fn(&[u8]) -> u64, port::count as fn(&[u8]) -> u64, &trials::COUNTS),
-        Work::Fields => (original::fields, port::fields, &trials::FIELDS),
-        Work::Build | Work::Resend => return Vec::new(),
-    };
-    [&[("Rust", rust), ("Rattle", rattle)], others].concat()
-}
-
-fn trials(seed: u64, rounds: usize) {
-    for case in Case::all() {
-        let ways = ways(case.work);
-        if ways.is_empty() {
-            continue;
-        }
-        let streams = case.streams(seed);
-        for stream in streams.each() {
-            ways.iter().for_each(|(_, way)| same(ways[0].1(stream), way(stream), stream));
-        }
-        let mut least = vec![f64::INFINITY; ways.len()];
-        for _ in 0..rounds {
-            for ((_, way), least) in ways.iter().zip(&mut least) {
-                *least = least.min(nanoseconds(&|| each(streams, *way)));
+fn table(seed: u64, rounds: usize) {
+    println!("| Work | large, chance | large, cycle | middle, chance | middle, cycle | small, chance | small, cycle |");
+    println!("|---|---|---|---|---|---|---|");
+    for work in Work::ALL {
+        print!("| {} |", work.name());
+        for case in Case::of(work) {
+            match case.map(|case| timed(&case.ready(seed), rounds)) {
+                Some((rust, rattle)) => print!(" {rust:.1} : {rattle:.1} = **{:.2}** |", rattle / rust),
+                None => print!(" |"),
             }
-        }
-        print!("{:<7} {:<7} {:>15}", case.work.name(), case.order.name(), format!("{} bytes", case.size));
-        for ((name, _), time) in ways.iter().zip(&least) {
-            print!("  {name} {:.2} ({:.2})", time / streams.commands as f64, time / least[0]);
         }
         println!();
     }
@@ -252,14 +288,13 @@ fn main() {
     let number = |word: &str| word.parse::<u64>().unwrap_or_else(|_| usage());
     match words[..] {
         ["table", seed, rounds] => table(number(seed), number(rounds) as usize),
-        ["trials", seed, rounds] => trials(number(seed), number(rounds) as usize),
         ["cases", seed] => {
             for case in Case::all() {
                 println!("{} {}", case.name(), case.ready(number(seed)).commands);
             }
         }
         ["one", seed, case, side, times] => {
-            let ready = Case::named(case).unwrap_or_else(|| usage()).ready(number(seed));
+            let ready = Case::all().find(|known| known.name() == case).unwrap_or_else(|| usage()).ready(number(seed));
             let run = match side {
                 "rust" => ready.rust,
                 "rattle" => ready.rattle,

@@ -4,13 +4,9 @@ use denote.Ref.{now}
 use Rattle.bits.proofs.Fixed.{Fixed, FixedWith}
 use Rattle.exports.proofs.records.nazhdivar_build.Reads as nazhdivar-build
 use Rattle.exports.proofs.streams.nazhdivar_count.Reads as nazhdivar-count
-use Rattle.exports.proofs.streams.nazhdivar_fields.Reads as nazhdivar-fields
 
 nazhdivar-build-one : FixedWith (λ s. now (s .1 .0)) nazhdivar-build.Post
 nazhdivar-build-one _ _ _ _ _ _ p q = p ∙ sym q
 
 nazhdivar-count-one : Fixed nazhdivar-count.Post
 nazhdivar-count-one _ _ _ _ _ _ p q = p ∙ sym q
-
-nazhdivar-fields-one : Fixed nazhdivar-fields.Post
-nazhdivar-fields-one _ _ _ _ _ _ p q = p ∙ sym q

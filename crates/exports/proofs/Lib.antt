@@ -1,4 +1,2 @@
-pub mod Adding
 pub mod Determined
 pub mod Faults
-pub mod Sums

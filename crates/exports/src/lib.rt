@@ -4,4 +4,3 @@ pub mod streams;
 
 pub use records::nazhdivar_build;
 pub use streams::nazhdivar_count;
-pub use streams::nazhdivar_fields;
