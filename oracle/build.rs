@@ -106,7 +106,7 @@ fn with_forms<T>(list: &[Plain], input: &[u8], with: impl FnOnce(&[&dyn Serializ
     Ok(with(&refs))
 }
 
-/// The refusal that document 01 gives the list before any buffer is looked at, and its class.
+/// The refusal that docs/RULES.md gives the list before any buffer is looked at (F5), and its class.
 struct Fault {
     number: u8,
     place: usize,

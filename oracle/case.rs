@@ -5,7 +5,7 @@ use std::panic::{catch_unwind, AssertUnwindSafe};
 
 /// What the original did with the input.
 pub enum Original {
-    /// It gave the case's answer, refusals translated to document 01's numbers.
+    /// It gave the case's answer, refusals translated to the numbers of docs/RULES.md.
     Agrees,
     /// It panicked, and the case is of this class.
     Panicked(u8),

@@ -1,4 +1,4 @@
-//! The differences between the original and document 01: each class has a number, and the smallest input that shows it.
+//! The differences between the original and docs/RULES.md: each class has a number, and the smallest input that shows it.
 //! What makes a case one of a class is tested where the entry is judged; a panic or an answer outside the classes ends the run.
 
 use crate::case::hex;

@@ -1,4 +1,4 @@
-//! Document 01's examples, P1 to P15, as cases.
+//! The examples P1 to P15 of docs/RULES.md, as cases.
 
 use crate::batch::Batch;
 use crate::build::run;

@@ -1,4 +1,4 @@
-//! The command table of document 01. The original's answers don't come from here: only the conditions of the listed differences do.
+//! The command table (docs/RULES.md, T1). The original's answers don't come from here: only the conditions of the listed differences do.
 
 #[derive(Clone, Copy, PartialEq)]
 pub enum Direction {

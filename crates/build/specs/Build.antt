@@ -1,4 +1,4 @@
--- The build (document 01, "Build" and "Refusal numbers"), for any rule and any list of records.
+-- The build (RULES: B1 to B4, F5), for any rule and any list of records.
 use Prim.Native.Nat.{ℕ, _+_}
 use mathlib.Core.Bool.{cond}
 use mathlib.Core.List.{List, [], _∷_, _++_}
@@ -35,6 +35,6 @@ fill (total n) bytes out = cond (leb n (length out)) (total n, over out 0 bytes)
 fill (refusedAt k place) bytes out = (refusedAt k place, out)
 fill (refused k) bytes out = (refused k, out)
 
--- CID and payload of each record in order; later bytes stay
+-- the bytes of the commands, one behind the other; memory behind them is as it was (RULES: B2)
 abbrev pub buildOf : Rule → List Item → List ℕ → Built × List ℕ
 buildOf L xs out = fill (totalOf L xs) (encode (cmdsOf xs)) out

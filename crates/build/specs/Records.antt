@@ -1,4 +1,4 @@
--- Commands as records (document 01, "Build"): each a CID, a length and payload bytes, of which those past the length don't count.
+-- Commands as records (RULES: B1, B4): a CID, a length, and payload bytes, of which none behind the length counts.
 use Prim.Native.Nat.{ℕ, _+_, _-_, _*_, _/_, _%_}
 use mathlib.Core.Bool.{cond}
 use mathlib.Core.List.{List, [], _∷_, _++_, map}
@@ -40,7 +40,7 @@ measured (some n) len = cond (eqb len n) (given (1 + len)) (refused 3)
 abbrev pub judged : Rule → Rec → Answer ℕ
 judged L r = measured (L (r .cid)) (r .len)
 
--- a part counts as a record, and is refused with 3, not 1, for any bytes
+-- what is left of a record that was cut off is refused with 3, whatever its bytes (RULES: H2)
 abbrev pub judgedItem : Rule → Item → Answer ℕ
 judgedItem L (whole r) = judged L r
 judgedItem L part = refused 3
@@ -57,7 +57,7 @@ noRecord = record { cid = 0; len = 0; payload = replicate 5 0 }
 abbrev pub ofPayload : ℕ → ℕ × List ℕ → Rec
 ofPayload cid payload = record { cid = cid; len = payload .0; bytes = payload .1 }
 
--- of a creator's image, of so many bytes: the first byte is the CID, and the others are the payload (document 01, "What must change shape")
+-- of a creator's image, of so many bytes: the first byte is the CID, and the others are the payload (RULES: H6)
 abbrev pub ofImage : ℕ × List ℕ → Rec
 ofImage image = record {
   cid = getD (image .1) 0 0;
@@ -83,7 +83,7 @@ slotAt s i = record {
 abbrev pub wholeSlots : List ℕ → List Rec
 wholeSlots s = tabulate (length s / 8) (slotAt s)
 
--- all the slots, a part slot at the end among them
+-- all the slots, and behind them a part, where bytes are left that make no slot (RULES: H2)
 abbrev pub slotsOf : List ℕ → List Item
 slotsOf s = map whole (wholeSlots s) ++ cond (eqb (length s % 8) 0) [] (part ∷ [])
 

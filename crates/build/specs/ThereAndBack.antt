@@ -1,4 +1,4 @@
--- What is claimed of the build (demand 3, d and e; document 01, "Build"), for any rule and any lists. proofs/ThereAndBack.antt proves it.
+-- What is claimed of the build (RULES: D3d, D3e, B2, B3), for any rule and any lists. proofs/ThereAndBack.antt proves it.
 use Prim.Native.Nat.{ℕ, _≤_}
 use mathlib.Core.Path.{_≡_}
 use mathlib.Core.Logic.{_↔_}
@@ -22,8 +22,8 @@ Full L (whole r ∷ xs) = (L (r .cid) ≡ some (r .len) → r .len ≤ length (r
 Full L (part ∷ xs) = Full L xs
 
 module _ (L : Rule) (xs : List Item) where
-  -- (d) "building a list of at most 4,096 well-formed commands of one direction that fits, then walking the bytes written, gives that
-  -- list and the end"; "later bytes stay"
+  -- D3d: of well-formed commands that fit, the walk of what the build wrote is the same list, and the end; and memory behind it is as it
+  -- was (B2)
   pub record WalksBack (out : List ℕ) : Type 0 where
     pub size : buildOf L xs out .0 ≡ total (length (encode (cmdsOf xs)))
     pub walk : walkOf L (take (length (encode (cmdsOf xs))) (buildOf L xs out .1))
@@ -42,7 +42,7 @@ module _ (L : Rule) (xs : List Item) where
   abbrev pub LengthIsWritten : Type 0
   LengthIsWritten = (n : ℕ) → Full L xs → totalOf L xs ≡ total n → n ≡ length (encode (cmdsOf xs))
 
--- (e) "two such lists of the same direction with equal bytes are equal". Bytes past a record's length don't count
+-- D3e: lists of well-formed commands that have the same bytes have the same commands (B4)
 abbrev pub EqualBytesEqualLists : Rule → Type 0
 EqualBytesEqualLists L =
     (xs ys : List Item) → Commands L xs → Commands L ys → encode (cmdsOf xs) ≡ encode (cmdsOf ys) → cmdsOf xs ≡ cmdsOf ys

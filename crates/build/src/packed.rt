@@ -45,7 +45,7 @@ fn slot(records: &[u8], i: usize) -> Record
     }
 }
 
-// How many records there are, a part slot at the end among them.
+// How many records there are. Bytes at the end that make no whole slot are one too.
 fn count(records: &[u8]) -> usize
     ensures { λ r. ⌜ r ≡ length (slotsOf (now (records .entry))) ⌝ }
 {
@@ -103,7 +103,8 @@ fn write_all(records: &[u8], total: usize, out: &mut [u8])
     }
 }
 
-// Writes CID and payload of each record in order, and answers the bytes written; later bytes of out stay. A refusal writes nothing.
+// Writes the commands of the records, one behind the other, and answers how many bytes that were; all behind them is left as it was. A refusal
+// writes nothing.
 pub fn build_mac_commands(rules: Rules, records: &[u8], out: &mut [u8]) -> BuildAnswer
     ensures { λ r. ⌜ (toldBuild r, now (out .exit)) ≡ buildOf (lengthOf rules) (slotsOf (now (records .entry))) (now (out .entry)) ⌝ }
 {

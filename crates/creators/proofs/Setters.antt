@@ -84,7 +84,7 @@ module _ (image : List ℕ) (s : ℕ) (here : 4 < length image) where
   pub seconds-read : secondsOf (payloadOf (secondsAt image s)) ≡ highFirst (lowBytes 4 s)
   seconds-read = ap highFirst seconds-bytes
 
--- below 1,000,000,000 the nanoseconds read lie at or under those set, by less than a step
+-- of less than a second, the nanoseconds read are those set or fewer, by less than a step (RULES: K7)
 pub nanos-read : (image : List ℕ) (n : ℕ) → 5 < length image → n < 1_000_000_000
     → (nanoSecondsOf (payloadOf (nanoSecondsAt image n .1)) ≤ n) × (n < nanoSecondsOf (payloadOf (nanoSecondsAt image n .1)) + 3_906_250)
 unfolding nanoSecondsAt

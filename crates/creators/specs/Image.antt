@@ -1,4 +1,4 @@
--- A creator's image (document 01, "Creators"): the command's CID, then its payload, so byte i of the payload is byte 1 + i of the image.
+-- A creator's image (RULES: K1): the command's CID, then its payload, so byte i of the payload is byte 1 + i of the image.
 use Prim.Native.Nat.{ℕ, _+_, _^_}
 use mathlib.Core.Bool.{Bool, cond}
 use mathlib.Core.List.{List, _∷_}

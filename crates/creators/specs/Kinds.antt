@@ -1,4 +1,4 @@
--- The two kinds of creators (document 01, "What must change shape"): the command of each kind, and the image beside it.
+-- The two kinds of creators (RULES: H6): the command of each kind, and the image beside it.
 use Prim.Native.Nat.{ℕ, _+_}
 use mathlib.Core.List.{List}
 use lib.ListN.{getD}

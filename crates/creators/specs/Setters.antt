@@ -1,4 +1,4 @@
--- The setters that write something other than their argument, over an image (document 01, "Creators" and its corners).
+-- The setters that write something other than their argument, over an image (RULES: K5, K7 to K9).
 use Prim.Native.Nat.{ℕ, zero, suc, _/_, _%_, _^_}
 use mathlib.Core.Bool.{Bool, false, cond}
 use mathlib.Core.List.{List, [], _∷_}
@@ -46,6 +46,6 @@ lowBytes (suc n) x = x % 256 ∷ lowBytes n (x / 256)
 unfoldable pub secondsAt : List ℕ → ℕ → List ℕ
 secondsAt image s = putBytes DeviceTimeAns·seconds image (lowBytes 4 s)
 
--- the quotient by 3,906,250, which is 1/256 second, mod 256. Refusal 12, NanoSecondsOutOfRange
+-- whole steps of 1/256 second, each 3,906,250 nanoseconds, mod 256. Refusal 12, NanoSecondsOutOfRange
 unfoldable pub nanoSecondsAt : List ℕ → ℕ → Consent × List ℕ
 nanoSecondsAt image n = onlyIf (leb n 1_000_000_000) 12 image (putAt DeviceTimeAns·fraction image (n / 3_906_250 % 256))

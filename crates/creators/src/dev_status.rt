@@ -76,7 +76,7 @@ pub struct DevStatusAnsCreator {
     pub(crate) data: [u8; 3],
 }
 
-// The creator, and whether the setter was accepted. A refused setter hands the creator back as it went in.
+// The creator, and whether the setter was accepted. A refused setter hands the creator back unchanged (RULES: F2).
 pub struct DevStatusAnsCreatorAnswer {
     pub verdict: Verdict,
     pub creator: DevStatusAnsCreator,

@@ -83,7 +83,7 @@ pub struct DeviceTimeAnsCreator {
     pub(crate) data: [u8; 6],
 }
 
-// The creator, and whether the setter was accepted. A refused setter hands the creator back as it went in.
+// The creator, and whether the setter was accepted. A refused setter hands the creator back unchanged (RULES: F2).
 pub struct DeviceTimeAnsCreatorAnswer {
     pub verdict: Verdict,
     pub creator: DeviceTimeAnsCreator,

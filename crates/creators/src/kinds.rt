@@ -1,4 +1,4 @@
-// The two kinds of creators: which command it is, beside its image. The Rust has an enum of creators; an enum can't hold an array.
+// The two kinds of creators: which command it is, beside its image. The Rust has an enum of creators; here no variant holds an array.
 use crate::dev_status::DevStatusAnsCreator;
 use crate::dev_status::DevStatusReqCreator;
 use crate::device_time::DeviceTimeAnsCreator;

@@ -1,4 +1,4 @@
-// The creators of document 01: twenty images of CID and payload with their setters, and the two kinds that a list of commands is made of.
+// The creators: twenty images of CID and payload with their setters, and the two kinds that a list of commands is made of.
 pub mod dev_status;
 pub mod device_time;
 pub mod dl_channel;

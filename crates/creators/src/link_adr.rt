@@ -34,7 +34,7 @@ pub struct LinkADRReqCreator {
     pub(crate) data: [u8; 5],
 }
 
-// The creator, and whether the setter was accepted. A refused setter hands the creator back as it went in.
+// The creator, and whether the setter was accepted. A refused setter hands the creator back unchanged (RULES: F2).
 pub struct LinkADRReqCreatorAnswer {
     pub verdict: Verdict,
     pub creator: LinkADRReqCreator,

@@ -11,7 +11,7 @@ pub struct RXTimingSetupReqCreator {
     pub(crate) data: [u8; 2],
 }
 
-// The creator, and whether the setter was accepted. A refused setter hands the creator back as it went in.
+// The creator, and whether the setter was accepted. A refused setter hands the creator back unchanged (RULES: F2).
 pub struct RXTimingSetupReqCreatorAnswer {
     pub verdict: Verdict,
     pub creator: RXTimingSetupReqCreator,

@@ -1,4 +1,4 @@
--- Frequency (the standard, 5.4 and 5.6; document 01): 24 bits, low byte first, times 100 Hz.
+-- Frequency (RULES: S5; the standard, 5.4 and 5.6): three bytes, the low one first, in steps of 100 Hz.
 use Prim.Native.Nat.{ℕ, _*_}
 use mathlib.Core.List.{List, [], _∷_}
 use Rattle.fields.specs.declared.frequency.Frequency.{Frequency}

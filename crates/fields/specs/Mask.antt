@@ -1,4 +1,4 @@
--- ChannelMask (the standard, 5.2; document 01), at every width: the bytes of a mask are a list, and its width is the list's length.
+-- ChannelMask (RULES: S6 to S11; the standard, 5.2), at every width: the bytes of a mask are a list, and its width is the list's length.
 use Prim.Native.Nat.{ℕ, _*_, _/_, _%_}
 use mathlib.Core.Bool.{Bool, cond}
 use mathlib.Core.List.{List}
@@ -8,11 +8,11 @@ use Rattle.bits.specs.Bits.{setField, bitOn, bitOf}
 use Rattle.table.specs.Answers.{Answer, given, refused, Consent, accepted}
 use Rattle.fields.specs.Lists.{tabulate}
 
--- channel c is bit c mod 8 of byte c / 8
+-- S7: eight channels to a byte, the first of them in its lowest bit
 abbrev pub channelOn : List ℕ → ℕ → Bool
 channelOn m c = bitOn (c % 8) (getD m (c / 8) 0)
 
--- the default: all ones
+-- S8: every channel is on
 abbrev pub allOn : ℕ → List ℕ
 allOn width = replicate width 255
 
@@ -31,7 +31,7 @@ bankOf m i = cond (ltb i (length m)) (given (getD m i 0)) (refused 5)
 abbrev pub setBank : List ℕ → ℕ → ℕ → Consent × List ℕ
 setBank m i v = cond (ltb i (length m)) (accepted, set m i v) (refused 5, m)
 
--- the channels. Refusal 5 at or past 8 x width
+-- the channels, eight to a byte. Refusal 5 for one that the mask has not
 abbrev pub enabledOf : List ℕ → ℕ → Answer Bool
 enabledOf m c = cond (ltb c (8 * length m)) (given (channelOn m c)) (refused 5)
 

@@ -1,5 +1,6 @@
--- Where each field of each command stands in its payload (document 01, "Payload readers"; the standard, 5.1 to 5.9). Byte 0 is the
--- first after the CID, bit 0 the lowest of its byte. Readers, setters and their laws all cite these places.
+-- Where each field of each command stands in its payload (RULES: Y3; the standard, 5.1 to 5.9). Byte 0 is the first after the CID, bit 0
+-- the lowest of its byte. The reader of a field, its setter and their laws cite its place. `ack` of three answers is of the whole byte instead
+-- (crate payloads, Acceptance.antt), and the bits within a byte of settings are in Settings.antt.
 use Prim.Native.Nat.{ℕ}
 use mathlib.Core.Bool.{Bool}
 use mathlib.Core.List.{List}

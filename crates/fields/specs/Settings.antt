@@ -1,4 +1,4 @@
--- The three one-byte settings (document 01, "Small fields").
+-- The three settings of one byte (RULES: S1 to S4).
 use Prim.Native.Nat.{ℕ}
 use mathlib.Core.Bool.{Bool, cond}
 use lib.Dec.{ltb}

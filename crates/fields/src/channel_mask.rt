@@ -112,7 +112,7 @@ fn statuses_in(m: &[u8], out: &mut [bool])
 
 pub struct ChannelMask2([u8; 2]);
 
-// A mask, and whether the call that made it was accepted. A refused call hands the mask back as it went in; a refused `new` hands
+// A mask, and whether the call that made it was accepted. A refused call hands the mask back unchanged (RULES: F2); a refused `new` hands
 // back a mask of zeros.
 pub struct ChannelMask2Answer {
     pub verdict: Verdict,
@@ -201,7 +201,7 @@ impl ChannelMask2 {
 
 pub struct ChannelMask9([u8; 9]);
 
-// A mask, and whether the call that made it was accepted. A refused call hands the mask back as it went in; a refused `new` hands
+// A mask, and whether the call that made it was accepted. A refused call hands the mask back unchanged (RULES: F2); a refused `new` hands
 // back a mask of zeros.
 pub struct ChannelMask9Answer {
     pub verdict: Verdict,

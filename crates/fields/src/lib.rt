@@ -1,4 +1,4 @@
-// The small fields of document 01: three one-byte settings, the frequency, and the channel mask at two widths.
+// The small fields: three settings of one byte, the frequency, and the channel mask at two widths.
 pub mod channel_mask;
 pub mod data_rate_range;
 pub mod dl_settings;

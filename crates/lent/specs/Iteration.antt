@@ -1,4 +1,4 @@
--- What is claimed of an iterator (document 01, "Walk" and "What must change shape"), for any rule and any stream. proofs/Iteration.antt proves it.
+-- What is claimed of an iterator (RULES: H1), for any rule and any stream. proofs/Iteration.antt proves it.
 use Prim.Native.Nat.{ℕ}
 use mathlib.Core.List.{List}
 use mathlib.Core.Path.{_≡_}

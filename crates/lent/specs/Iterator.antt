@@ -1,4 +1,4 @@
--- An iterator over a stream (document 01, "What must change shape"): the stream and an index in one struct, moved by its steps.
+-- An iterator over a stream (RULES: H1, M8): the stream, and an index that its steps move.
 use Prim.Native.Nat.{ℕ, zero, suc}
 use mathlib.Core.List.{List}
 use denote.Ref.{RefT}

@@ -1,4 +1,4 @@
--- What is claimed of the build over record structs and the packed build (document 01, "What must change shape"): the same records get the same answer.
+-- What is claimed of the build over record structs and the packed build (RULES: H2, H3): the same records get the same answer.
 -- proofs/Packing.antt proves it.
 use Prim.Native.Nat.{ℕ, _*_, _/_, _<_}
 use mathlib.Core.List.{List}

@@ -1,4 +1,4 @@
--- The build over a lent slice of record structs: the records as crate build's definitions have them.
+-- The build over record structs (RULES: H3, M9): the records as crate build's definitions have them.
 use mathlib.Core.List.{List, map}
 use Rattle.build.specs.Records.{Rec, Item, whole, heldBy}
 use Rattle.build.specs.declared.record.Record.{Record}

@@ -139,7 +139,8 @@ fn write_records(records: &[Record], out: &mut [u8])
     }
 }
 
-// Writes CID and payload of each record in order, and answers the bytes written; later bytes of out stay. A refusal writes nothing.
+// Writes the commands of the records, one behind the other, and answers how many bytes that were; all behind them is left as it was. A refusal
+// writes nothing.
 pub fn build_records(rules: Rules, records: &[Record], out: &mut [u8]) -> BuildAnswer
     ensures { λ r. ⌜ (toldBuild r, now (out .exit)) ≡ buildOf (lengthOf rules) (itemsOf (now (records .entry))) (now (out .entry)) ⌝ }
 {

@@ -1,5 +1,5 @@
--- Whether an answer says that the device accepted the request (document 01, "Payload readers": `ack`). Four rules, no two of which
--- are to be taken for one.
+-- Whether an answer says that the device accepted the request (RULES: Y4). Three rules for four answers: LinkADRAns and RXParamSetupAns share
+-- one, and no one serves them all.
 use mathlib.Core.Bool.{Bool, _&&_}
 use mathlib.Core.List.{List}
 use Prim.Native.Nat.{ℕ}

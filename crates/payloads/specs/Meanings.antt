@@ -1,5 +1,5 @@
--- What the fields mean that are more than a number or a flag (document 01, "Payload readers"). A field's place is in
--- Rattle.fields.specs.Places, its meaning here, and nowhere else.
+-- What the fields mean that are more than a number or a flag (RULES: Y5 to Y10). Where they stand is in Rattle.fields.specs.Places; what an
+-- answer's flags mean together is in Acceptance.antt, and what a frequency, a mask and the settings mean is in crate fields.
 use Prim.Native.Nat.{ℕ, _+_, _-_, _*_, _^_}
 use mathlib.Core.Bool.{false, cond}
 use mathlib.Core.List.{List, [], _∷_}
@@ -36,7 +36,7 @@ signed bits n = cond (ltb n (2 ^ (bits - 1))) (pos n) (pos n -ℤ pos (2 ^ bits)
 abbrev pub marginOf : List ℕ → ℤ
 marginOf payload = signed (DevStatusAns·margin .width) (numberAt DevStatusAns·margin payload)
 
--- ---- RXTimingSetupReq: the number as it stands. (The standard, 5.7, gives 0 the meaning of 1 second.)
+-- ---- RXTimingSetupReq: the number as it stands (RULES: Y7). By the standard, 5.7, a 0 is 1 second
 
 abbrev pub delayOf : List ℕ → ℕ
 delayOf payload = numberAt RXTimingSetupReq·delay payload
@@ -57,7 +57,7 @@ abbrev pub highFirst : List ℕ → ℕ
 highFirst [] = 0
 highFirst (b ∷ bs) = b * 256 ^ length bs + highFirst bs
 
--- the Rust reads the seconds high byte first. (The standard sends them low byte first.)
+-- as the Rust has them (RULES: Y9). By the standard they come with the low byte first
 abbrev pub secondsOf : List ℕ → ℕ
 secondsOf payload = highFirst (bytesAt DeviceTimeAns·seconds payload)
 

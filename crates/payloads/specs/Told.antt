@@ -1,4 +1,4 @@
--- What the answers of the sized constructors tell, in document 01's terms: the payload's bytes, or the refusal's number.
+-- What the answers of the sized constructors tell (RULES: Y1, M11): the payload's bytes, or the refusal's number.
 use Prim.Native.Nat.{ℕ}
 use mathlib.Core.List.{List}
 use Rattle.table.specs.Answers.{Answer, given, refused}

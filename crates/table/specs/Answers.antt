@@ -1,4 +1,4 @@
--- What a public function answers, in document 01's terms: a value, or the number of a refusal.
+-- What a public function answers (RULES: F1, M11): a value, or the number of a refusal.
 use Prim.Native.Nat.{ℕ}
 
 pub data Answer (A : Type 0) : Type 0 where

@@ -1,4 +1,4 @@
--- Document 01, "Refusal numbers".
+-- The numbers of the refusals (RULES: R1 to R16).
 use Prim.Native.Nat.{ℕ}
 use Rattle.table.specs.declared.refusal.Refusal.{Refusal}
 use Rattle.table.specs.declared.refusal.Refusal.the-variants.{

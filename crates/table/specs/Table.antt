@@ -1,4 +1,4 @@
--- Document 01, "Command table": a row for each CID, with the command sent down and the command sent up, each with the bytes of its
+-- The command table (RULES: T1): a row for each CID, with the command sent down and the command sent up, each with the bytes of its
 -- payload, the CID not counted. All that is said elsewhere of a command's CID, direction and length follows from these rows.
 use Prim.Native.Nat.{ℕ}
 use Prim.Native.String.{String}
@@ -45,7 +45,7 @@ abbrev pub lengthIn : List Row → Direction → ℕ → Option ℕ
 lengthIn [] d c = none
 lengthIn (r ∷ rs) d c = cond (eqb c (r .cid)) (some (sideOf d (r .bytesDown) (r .bytesUp))) (lengthIn rs d c)
 
--- the rule of a stream: how many payload bytes follow a CID, and none for a byte that is no CID of the direction
+-- the rule of a stream: how many payload bytes follow a CID, and none for a byte that the direction has no command for
 abbrev pub lengthOf : Rules → ℕ → Option ℕ
 lengthOf rules c = lengthIn rows (rules .direction) c
 
@@ -77,6 +77,6 @@ cited none = tt
 abbrev pub named : (n : String) → Cited (namedIn rows n)
 named n = cited (namedIn rows n)
 
--- the flag by which a command type says that it is sent up. That of DevStatusAns says "not uplink" in the Rust (document 01, "Command table")
+-- the flag by which a command type says that it is sent up. DevStatusAns says that it is not, as in the Rust (RULES: T3)
 abbrev pub flagOf : Command → Bool
 flagOf c = cond (eqt (c .name) (named "DevStatusAns" .name)) false (c .up)

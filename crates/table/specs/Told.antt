@@ -1,4 +1,4 @@
--- What the answers of this crate tell, in document 01's terms.
+-- What the answers of this crate tell, in the numbers and values of docs/RULES.md (M11).
 use Prim.Native.Nat.{ℕ}
 use mathlib.Core.Option.{Option, none, some}
 use Rattle.table.specs.declared.refusal.Verdict.{Verdict}

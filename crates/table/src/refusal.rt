@@ -1,19 +1,19 @@
-// The refusals of document 01, by their names there. Each is given exactly when its line says.
+// The refusals, R1 to R16 of docs/RULES.md in their order. Each is given when its line says so, and in no other case.
 ghost use mathlib.Core.Path.{_≡_};
 ghost use Rattle.table.specs.Refusals.{numberOf};
 
 pub enum Refusal {
-    // The byte is no CID of the direction.
+    // A byte that the direction has no command for.
     UnknownMacCommand,
-    // A known CID, with fewer payload bytes left than the table says.
+    // A command whose payload is cut off.
     TruncatedPayload,
-    // A sized payload or `Frequency` not of its exact length; a record whose length isn't the table's.
+    // More or fewer bytes than a sized payload or a `Frequency` has; a record that states another length than the table.
     WrongLength,
-    // An output smaller than the total; mask bytes fewer than its width.
+    // No room for the total; too few bytes for a mask.
     BufferTooShort,
-    // A channel at or past 8 x width, a bank at or past width, a step's offset past the stream.
+    // A channel or a bank that the mask has not; an offset behind the end of the stream.
     InvalidIndex,
-    // A checked range with its high nibble below its low nibble.
+    // A range, made with the check, whose highest rate is below its lowest.
     InvalidDataRateRange,
     // A setter's data rate over 15.
     InvalidDataRate,
@@ -27,18 +27,18 @@ pub enum Refusal {
     MaxEirpOutOfRange,
     // Nanoseconds over 1,000,000,000.
     NanoSecondsOutOfRange,
-    // Chooser: port 0, payload and FOpts both non-empty.
+    // Chooser: commands in the payload, by port 0, and in FOpts too.
     BothPlaces,
-    // Chooser: FOpts over 15 bytes.
+    // Chooser: more than 15 bytes of FOpts.
     FOptsTooLong,
-    // Chooser: no port, payload non-empty.
+    // Chooser: a payload, and no port.
     PayloadWithoutPort,
     // Over 4,096 records.
     ListTooLong,
 }
 
 impl Refusal {
-    // Document 01's number.
+    // The refusal's number in docs/RULES.md.
     pub fn number(self) -> u8
         ensures { λ r. ⌜ r ≡ numberOf self ⌝ }
     {

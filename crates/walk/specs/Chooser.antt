@@ -1,4 +1,4 @@
--- The chooser (document 01): which of the two places in a frame, FOpts or the payload, holds its MAC commands.
+-- The chooser (RULES: C1 to C4): which of the two places in a frame, FOpts or the payload, holds its MAC commands.
 use Prim.Native.Nat.{ℕ}
 use mathlib.Core.Bool.{Bool, true, false, cond, _&&_}
 use mathlib.Core.List.{List}
@@ -20,28 +20,28 @@ abbrev pub isZero : Option ℕ → Bool
 isZero none = false
 isZero (some n) = eqb n 0
 
--- "15 PayloadWithoutPort: no port, payload non-empty"
+-- R15: a payload, and no port
 abbrev pub withoutPort : Option ℕ → List ℕ → Bool
 withoutPort port payload = isNone port && nonEmpty payload
 
--- "14 FOptsTooLong: FOpts over 15 bytes"
+-- R14: more than 15 bytes of FOpts
 abbrev pub tooLong : List ℕ → Bool
 tooLong fopts = ltb 15 (length fopts)
 
--- "with port 0 and a non-empty payload the answer is the payload"
+-- C2: the commands are in the payload
 abbrev pub inPayload : Option ℕ → List ℕ → Bool
 inPayload port payload = isZero port && nonEmpty payload
 
--- "13 BothPlaces: port 0, payload and FOpts both non-empty"
+-- R13: commands in both places
 abbrev pub inBoth : Option ℕ → List ℕ → List ℕ → Bool
 inBoth port fopts payload = inPayload port payload && nonEmpty fopts
 
--- "Order: chooser 15, 14, 13"
+-- F4: in this order
 abbrev pub verdictOf : Option ℕ → List ℕ → List ℕ → Consent
 verdictOf port fopts payload =
     cond (withoutPort port payload) (refused 15) (cond (tooLong fopts) (refused 14) (cond (inBoth port fopts payload) (refused 13) accepted))
 
--- the part that a verdict leaves: the payload or FOpts, and "when it is a refusal, the empty front of FOpts"
+-- C4: the part that a verdict leaves: the payload or FOpts, and of a refusal the front of FOpts, with no bytes
 abbrev pub byVerdict : Consent → Bool → RefT (List ℕ) → RefT (List ℕ) → Part
 byVerdict (given _) inPayload fopts payload = cond inPayload (shown payload) (shown fopts)
 byVerdict (refused n) inPayload fopts payload = emptyFront fopts

@@ -1,4 +1,4 @@
--- Who owns each byte (DEMANDS, 3): what is claimed of the walk of every stream, by every rule, so in each direction and by each table.
+-- Who owns each byte (RULES: D3): what is claimed of the walk of every stream, by every rule, so in each direction and by each table.
 -- proofs/Ownership.antt proves each claim.
 use Prim.Native.Nat.{ℕ, _+_, _<_, _≤_}
 use mathlib.Core.List.{List, [], _∷_, _++_}
@@ -24,8 +24,8 @@ pub data Ends (L : Rule) : (at : ℕ) → List ℕ → Ending → Type 0 where
   cut-short : {at : ℕ} (c n : ℕ) (s : List ℕ) → L c ≡ some n → length s < n → Ends L at (c ∷ s) (stop 2 at)
 
 module _ (L : Rule) (s : List ℕ) where
-  -- (a) "the bytes before the walk's offset are, at each step, exactly the commands handed out so far, joined in order": wherever the
-  -- walk's list is parted into those handed out and those to come
+  -- D3a: the commands handed out are the bytes in front of the walk's offset, wherever the walk's list is parted into those handed out and
+  -- those to come
   pub record Owned (handed coming : List Placed) : Type 0 where
     pub commands : WellFormed L (bare handed)
     pub within : offsetOf coming (walkOf L s .ending) ≤ length s
@@ -34,11 +34,11 @@ module _ (L : Rule) (s : List ℕ) where
   abbrev pub EveryByteOwned : Type 0
   EveryByteOwned = (handed coming : List Placed) → walkOf L s .cmds ≡ handed ++ coming → Owned handed coming
 
-  -- (b) "the walk stops only at the end, at an unknown command byte or at a payload cut short, and says which and where"
+  -- D3b: one of the three endings is so, where the walk says
   abbrev pub StopsOnlyThere : Type 0
   StopsOnlyThere = Ends L (placeOf (walkOf L s .ending)) (drop (placeOf (walkOf L s .ending)) s) (walkOf L s .ending)
 
-  -- and the converse. The stream is divided into whole commands and bytes at which one of the three endings is so
+  -- and its converse. The stream is divided into whole commands and bytes at which one of the three endings is so
   pub record Division : Type 0 where
     pub cmds : List Cmd
     pub rest : List ℕ
@@ -53,11 +53,11 @@ module _ (L : Rule) (s : List ℕ) where
     pub reported : (d : Division) → walkOf L s ≡ record { cmds = place 0 (d .cmds); ending = d .ending }
     pub unique : (d e : Division) → (d .cmds ≡ e .cmds) × (d .ending ≡ e .ending)
 
-  -- (c) "every division of a front part of the stream into whole commands is the beginning of the walk's list"
+  -- D3c: commands that a front of the stream can be cut into are the first of the walk's list
   abbrev pub FrontsAreBeginnings : Type 0
   FrontsAreBeginnings = (cs : List Cmd) (rest : List ℕ) → WellFormed L cs → encode cs ++ rest ≡ s → (more : List Placed) × (walkOf L s .cmds ≡ place 0 cs ++ more)
 
-  -- "the number of commands .. is .. at most the stream's length"
+  -- W4: a walk has no more commands than the stream has bytes
   abbrev pub CountFits : Type 0
   CountFits = length (walkOf L s .cmds) ≤ length s
 
@@ -80,12 +80,11 @@ module _ (L : Rule) (s : List ℕ) where
   abbrev pub StepAndWalkAgree : Type 0
   StepAndWalkAgree = (at : ℕ) → at ≤ length s → StepsAreTheWalk at
 
-  -- "a stop stays: stepping again gives it again"
+  -- W3: a step where the walk has stopped gives the same stop
   abbrev pub StopsStay : Type 0
   StopsStay = (at n o : ℕ) → stepAt L s at ≡ given (stopped n o) → stepAt L s o ≡ given (stopped n o)
 
--- "a command's payload is shown as the part of the lent stream just after its CID": the part that `payload_at` promises begins there
--- and holds the command's payload
+-- W2: the part that `payload_at` promises begins behind the command's CID, and holds the command's payload
 abbrev pub PayloadShown : Rule → RefT (List ℕ) → Type 0
 PayloadShown L s = (at next : ℕ) (c : Cmd) → foundAt L (s .now) at ≡ given (command c next)
     → payloadPart s at (stepAt L (s .now) at) ≡ record { place = (s .ptr .0, at + 1 + s .ptr .1); bytes = c .body }

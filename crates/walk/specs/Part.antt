@@ -22,8 +22,8 @@ partOf s a n = record { place = (s .ptr .0, a + s .ptr .1); bytes = take n (drop
 abbrev pub emptyFront : RefT (List ℕ) → Part
 emptyFront s = partOf s 0 0
 
--- the payload that a step at an offset shows: the part of the stream just after the CID. Where the step gives no command, it is the
--- stream's empty front
+-- the payload that a step at an offset shows (RULES: W2): what stands behind the CID, and of a step without a command the stream's front, with
+-- no bytes
 abbrev pub payloadPart : RefT (List ℕ) → ℕ → Answer (Found Heading) → Part
 payloadPart s at (given (command h next)) = partOf s (at + 1) (h .len)
 payloadPart s at (given ended) = emptyFront s

@@ -1,4 +1,4 @@
--- What is answered of one step at an offset of a stream, and of the whole walk from there (document 01, "Walk").
+-- What is answered of one step at an offset of a stream, and of the whole walk from there (RULES: W1, W4).
 use Prim.Native.Nat.{ℕ, _+_}
 use mathlib.Core.Bool.{cond}
 use mathlib.Core.List.{List, [], _∷_}

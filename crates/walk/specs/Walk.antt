@@ -1,4 +1,4 @@
--- The walk over a stream of MAC commands (document 01, "Walk"; demand 3), for any rule L: the number of payload bytes that follow a CID,
+-- The walk over a stream of MAC commands (RULES: W1 to W6, D3), for any rule L: the number of payload bytes that follow a CID,
 -- or none for a byte that is no CID.
 use Prim.Native.Nat.{ℕ, zero, suc, _+_}
 use mathlib.Core.Bool.{cond}

@@ -56,8 +56,7 @@ pub fn choose_verdict(fopts: &[u8], payload: &[u8], port: Port) -> Verdict
     Verdict::Accepted
 }
 
-// The frame's MAC commands: all of FOpts or all of the payload, as the verdict allows. Where it is a refusal, the empty front of
-// FOpts.
+// The frame's MAC commands: all of FOpts or all of the payload, as the verdict allows. Where it refuses, the front of FOpts, with no bytes.
 pub fn choose<'a>(fopts: &'a [u8], payload: &'a [u8], port: Port) -> &'a [u8]
     ensures { λ r. ⌜ shown r ≡ chosen (toldPort port) (fopts .entry) (payload .entry) ⌝ }
 {

@@ -54,8 +54,8 @@ pub fn step_at(rules: Rules, stream: &[u8], at: usize) -> Step
     }
 }
 
-// The payload of the command at an offset, as the part of the stream just after its CID. Where the step gives no command, the
-// stream's empty front.
+// The payload of the command at an offset: the part of the stream that begins behind its CID. Where there is no command, the front of the
+// stream, with no bytes.
 pub fn payload_at(rules: Rules, stream: &[u8], at: usize) -> &[u8]
     ensures { λ r. ⌜ shown r ≡ payloadPart (stream .entry) at (stepAt (lengthOf rules) (now (stream .entry)) at) ⌝ }
 {
