@@ -1,5 +1,4 @@
 // The port's answer to a case, as bytes. Those of few bytes are told by value, one byte behind the other.
-use crate::reading::first;
 use crate::reading::signed;
 use build::Record;
 use fields::Frequency;
@@ -59,19 +58,21 @@ impl Answer {
         self.byte(byte_of(n))
     }
 
-    pub(crate) fn all(self, bytes: &[u8]) -> Answer {
+    // The first n of the bytes; all of them where there are fewer.
+    pub(crate) fn front(self, bytes: &[u8], n: usize) -> Answer {
         let mut told = self;
         let mut i = 0;
         while i < bytes.len() {
-            told = told.byte(bytes[i]);
+            if i < n {
+                told = told.byte(bytes[i]);
+            }
             i += 1;
         }
         told
     }
 
-    // The first n of the bytes; all of them where there are fewer.
-    pub(crate) fn front(self, bytes: &[u8], n: usize) -> Answer {
-        self.all(first(bytes, n))
+    pub(crate) fn all(self, bytes: &[u8]) -> Answer {
+        self.front(bytes, bytes.len())
     }
 
     pub(crate) fn flags(self, flags: &[bool]) -> Answer {
@@ -84,12 +85,8 @@ impl Answer {
         told
     }
 
-    // 0 for accepted, else the refusal's number.
     pub(crate) fn verdict(self, verdict: Verdict) -> Answer {
-        match verdict {
-            Verdict::Accepted => self.byte(0),
-            Verdict::Refused(reason) => self.byte(reason.number()),
-        }
+        self.byte(number(verdict))
     }
 
     // The verdict of an accepted constructor, and the bytes that it took.
@@ -130,7 +127,15 @@ impl Answer {
     // Puts the answer at a place of out; the place behind it.
     pub(crate) fn put(self, out: &mut [u8], at: usize) -> usize {
         let bytes = self.bytes;
-        put_all(first(&bytes, self.len), out, at)
+        put_front(&bytes, self.len, out, at)
+    }
+}
+
+// 0 for accepted, else the refusal's number.
+pub(crate) fn number(verdict: Verdict) -> u8 {
+    match verdict {
+        Verdict::Accepted => 0,
+        Verdict::Refused(reason) => reason.number(),
     }
 }
 
@@ -146,18 +151,21 @@ fn byte_of(n: i8) -> u8 {
     b
 }
 
-// Puts the bytes at a place of out; the place behind them. Where there is no room, the place itself.
-pub(crate) fn put_all(bytes: &[u8], out: &mut [u8], at: usize) -> usize {
+// Puts the first n of the bytes at a place of out; the place behind them. Where there are not so many, or no room for them, the place itself.
+pub(crate) fn put_front(bytes: &[u8], n: usize, out: &mut [u8], at: usize) -> usize {
+    if bytes.len() < n {
+        return at;
+    }
     if out.len() < at {
         return at;
     }
-    if out.len() - at < bytes.len() {
+    if out.len() - at < n {
         return at;
     }
     let mut i = 0;
-    while i < bytes.len() {
+    while i < n {
         out[at + i] = bytes[i];
         i += 1;
     }
-    at + bytes.len()
+    at + n
 }

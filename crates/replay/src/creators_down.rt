@@ -1,10 +1,15 @@
 // The entries from 40 on, every second: the creators of the commands that are sent down, by themselves, in their enum, and as records.
 use crate::answer::Answer;
+use crate::answer::number;
 use crate::image::accepted;
 use crate::image::told_down;
 use crate::image::verdicts;
-use crate::reading::call_at;
+use crate::reading::argument;
+use crate::reading::byte;
+use crate::reading::frequency;
 use crate::reading::is_default;
+use crate::reading::low;
+use crate::reading::mask;
 use creators::DevStatusReqCreator;
 use creators::DeviceTimeAnsCreator;
 use creators::DeviceTimeAnsCreatorAnswer;
@@ -20,16 +25,17 @@ use creators::RXTimingSetupReqCreator;
 use creators::RXTimingSetupReqCreatorAnswer;
 use creators::TXParamSetupReqCreator;
 use creators::TXParamSetupReqCreatorAnswer;
-use table::Verdict;
+use fields::DLSettings;
+use fields::DataRateRange;
+use fields::Redundancy;
 
 // ---- LinkCheckAns.
 
 fn link_check_ans_set(c: LinkCheckAnsCreator, input: &[u8], at: usize) -> LinkCheckAnsCreator {
-    let call = call_at(input, at);
-    let setter = call.setter;
-    match setter {
-        1 => c.set_margin(call.byte()),
-        2 => c.set_gateway_count(call.byte()),
+    let a = argument(input, at);
+    match byte(input, at) {
+        1 => c.set_margin(low(a)),
+        2 => c.set_gateway_count(low(a)),
         _ => c,
     }
 }
@@ -51,22 +57,32 @@ fn link_check_ans(input: &[u8]) -> Answer {
 
 // ---- LinkADRReq.
 
-fn link_adr_req_taken(creator: LinkADRReqCreator) -> LinkADRReqCreatorAnswer {
-    LinkADRReqCreatorAnswer {
-        verdict: Verdict::Accepted,
-        creator,
+fn link_adr_req_kept(answer: LinkADRReqCreatorAnswer) -> LinkADRReqCreator {
+    answer.creator
+}
+
+fn link_adr_req_number(answer: LinkADRReqCreatorAnswer) -> u8 {
+    let verdict = answer.verdict;
+    number(verdict)
+}
+
+fn link_adr_req_set(c: LinkADRReqCreator, input: &[u8], at: usize) -> LinkADRReqCreator {
+    let a = argument(input, at);
+    match byte(input, at) {
+        1 => link_adr_req_kept(c.set_data_rate(low(a))),
+        2 => link_adr_req_kept(c.set_tx_power(low(a))),
+        3 => c.set_channel_mask(mask(a)),
+        4 => c.set_redundancy(Redundancy::new(low(a))),
+        _ => c,
     }
 }
 
-fn link_adr_req_set(c: LinkADRReqCreator, input: &[u8], at: usize) -> LinkADRReqCreatorAnswer {
-    let call = call_at(input, at);
-    let setter = call.setter;
-    match setter {
-        1 => c.set_data_rate(call.byte()),
-        2 => c.set_tx_power(call.byte()),
-        3 => link_adr_req_taken(c.set_channel_mask(call.mask())),
-        4 => link_adr_req_taken(c.set_redundancy(call.redundancy())),
-        _ => link_adr_req_taken(c),
+fn link_adr_req_verdict(c: LinkADRReqCreator, input: &[u8], at: usize) -> u8 {
+    let a = argument(input, at);
+    match byte(input, at) {
+        1 => link_adr_req_number(c.set_data_rate(low(a))),
+        2 => link_adr_req_number(c.set_tx_power(low(a))),
+        _ => 0,
     }
 }
 
@@ -76,36 +92,25 @@ fn link_adr_req(input: &[u8]) -> Answer {
     } else {
         LinkADRReqCreator::new()
     };
-    let first = link_adr_req_set(c, input, 1);
-    let first_verdict = first.verdict;
-    let c = first.creator;
-    let second = link_adr_req_set(c, input, 6);
-    let second_verdict = second.verdict;
-    let c = second.creator;
-    let third = link_adr_req_set(c, input, 11);
-    let third_verdict = third.verdict;
-    let c = third.creator;
-    let fourth = link_adr_req_set(c, input, 16);
-    let fourth_verdict = fourth.verdict;
-    let c = fourth.creator;
+    let first = link_adr_req_verdict(c, input, 1);
+    let c = link_adr_req_set(c, input, 1);
+    let second = link_adr_req_verdict(c, input, 6);
+    let c = link_adr_req_set(c, input, 6);
+    let third = link_adr_req_verdict(c, input, 11);
+    let c = link_adr_req_set(c, input, 11);
+    let fourth = link_adr_req_verdict(c, input, 16);
+    let c = link_adr_req_set(c, input, 16);
     let image = c.build();
-    let told = verdicts(
-        input,
-        first_verdict,
-        second_verdict,
-        third_verdict,
-        fourth_verdict,
-    ).image(c.cid(), c.len(), &image);
+    let told = verdicts(input, first, second, third, fourth).image(c.cid(), c.len(), &image);
     told_down(told, DownlinkMacCommandCreator::from_link_adr_req(c))
 }
 
 // ---- DutyCycleReq.
 
 fn duty_cycle_req_set(c: DutyCycleReqCreator, input: &[u8], at: usize) -> DutyCycleReqCreator {
-    let call = call_at(input, at);
-    let setter = call.setter;
-    match setter {
-        1 => c.set_max_duty_cycle(call.byte()),
+    let a = argument(input, at);
+    match byte(input, at) {
+        1 => c.set_max_duty_cycle(low(a)),
         _ => c,
     }
 }
@@ -132,11 +137,10 @@ fn rx_param_setup_req_set(
     input: &[u8],
     at: usize,
 ) -> RXParamSetupReqCreator {
-    let call = call_at(input, at);
-    let setter = call.setter;
-    match setter {
-        1 => c.set_dl_settings(call.settings()),
-        2 => c.set_frequency(call.frequency()),
+    let a = argument(input, at);
+    match byte(input, at) {
+        1 => c.set_dl_settings(DLSettings::new(low(a))),
+        2 => c.set_frequency(frequency(a)),
         _ => c,
     }
 }
@@ -172,12 +176,11 @@ fn dev_status_req(input: &[u8]) -> Answer {
 // ---- NewChannelReq.
 
 fn new_channel_req_set(c: NewChannelReqCreator, input: &[u8], at: usize) -> NewChannelReqCreator {
-    let call = call_at(input, at);
-    let setter = call.setter;
-    match setter {
-        1 => c.set_channel_index(call.byte()),
-        2 => c.set_frequency(call.frequency()),
-        3 => c.set_data_rate_range(call.range()),
+    let a = argument(input, at);
+    match byte(input, at) {
+        1 => c.set_channel_index(low(a)),
+        2 => c.set_frequency(frequency(a)),
+        3 => c.set_data_rate_range(DataRateRange::new_from_raw(low(a))),
         _ => c,
     }
 }
@@ -199,23 +202,32 @@ fn new_channel_req(input: &[u8]) -> Answer {
 
 // ---- RXTimingSetupReq.
 
-fn rx_timing_setup_req_taken(creator: RXTimingSetupReqCreator) -> RXTimingSetupReqCreatorAnswer {
-    RXTimingSetupReqCreatorAnswer {
-        verdict: Verdict::Accepted,
-        creator,
-    }
+fn rx_timing_setup_req_kept(answer: RXTimingSetupReqCreatorAnswer) -> RXTimingSetupReqCreator {
+    answer.creator
+}
+
+fn rx_timing_setup_req_number(answer: RXTimingSetupReqCreatorAnswer) -> u8 {
+    let verdict = answer.verdict;
+    number(verdict)
 }
 
 fn rx_timing_setup_req_set(
     c: RXTimingSetupReqCreator,
     input: &[u8],
     at: usize,
-) -> RXTimingSetupReqCreatorAnswer {
-    let call = call_at(input, at);
-    let setter = call.setter;
-    match setter {
-        1 => c.set_delay(call.byte()),
-        _ => rx_timing_setup_req_taken(c),
+) -> RXTimingSetupReqCreator {
+    let a = argument(input, at);
+    match byte(input, at) {
+        1 => rx_timing_setup_req_kept(c.set_delay(low(a))),
+        _ => c,
+    }
+}
+
+fn rx_timing_setup_req_verdict(c: RXTimingSetupReqCreator, input: &[u8], at: usize) -> u8 {
+    let a = argument(input, at);
+    match byte(input, at) {
+        1 => rx_timing_setup_req_number(c.set_delay(low(a))),
+        _ => 0,
     }
 }
 
@@ -225,50 +237,49 @@ fn rx_timing_setup_req(input: &[u8]) -> Answer {
     } else {
         RXTimingSetupReqCreator::new()
     };
-    let first = rx_timing_setup_req_set(c, input, 1);
-    let first_verdict = first.verdict;
-    let c = first.creator;
-    let second = rx_timing_setup_req_set(c, input, 6);
-    let second_verdict = second.verdict;
-    let c = second.creator;
-    let third = rx_timing_setup_req_set(c, input, 11);
-    let third_verdict = third.verdict;
-    let c = third.creator;
-    let fourth = rx_timing_setup_req_set(c, input, 16);
-    let fourth_verdict = fourth.verdict;
-    let c = fourth.creator;
+    let first = rx_timing_setup_req_verdict(c, input, 1);
+    let c = rx_timing_setup_req_set(c, input, 1);
+    let second = rx_timing_setup_req_verdict(c, input, 6);
+    let c = rx_timing_setup_req_set(c, input, 6);
+    let third = rx_timing_setup_req_verdict(c, input, 11);
+    let c = rx_timing_setup_req_set(c, input, 11);
+    let fourth = rx_timing_setup_req_verdict(c, input, 16);
+    let c = rx_timing_setup_req_set(c, input, 16);
     let image = c.build();
-    let told = verdicts(
-        input,
-        first_verdict,
-        second_verdict,
-        third_verdict,
-        fourth_verdict,
-    ).image(c.cid(), c.len(), &image);
+    let told = verdicts(input, first, second, third, fourth).image(c.cid(), c.len(), &image);
     told_down(told, DownlinkMacCommandCreator::from_rx_timing_setup_req(c))
 }
 
 // ---- TXParamSetupReq.
 
-fn tx_param_setup_req_taken(creator: TXParamSetupReqCreator) -> TXParamSetupReqCreatorAnswer {
-    TXParamSetupReqCreatorAnswer {
-        verdict: Verdict::Accepted,
-        creator,
-    }
+fn tx_param_setup_req_kept(answer: TXParamSetupReqCreatorAnswer) -> TXParamSetupReqCreator {
+    answer.creator
+}
+
+fn tx_param_setup_req_number(answer: TXParamSetupReqCreatorAnswer) -> u8 {
+    let verdict = answer.verdict;
+    number(verdict)
 }
 
 fn tx_param_setup_req_set(
     c: TXParamSetupReqCreator,
     input: &[u8],
     at: usize,
-) -> TXParamSetupReqCreatorAnswer {
-    let call = call_at(input, at);
-    let setter = call.setter;
-    match setter {
-        1 => tx_param_setup_req_taken(c.set_downlink_dwell_time()),
-        2 => tx_param_setup_req_taken(c.set_uplink_dwell_time()),
-        3 => c.set_max_eirp(call.byte()),
-        _ => tx_param_setup_req_taken(c),
+) -> TXParamSetupReqCreator {
+    let a = argument(input, at);
+    match byte(input, at) {
+        1 => c.set_downlink_dwell_time(),
+        2 => c.set_uplink_dwell_time(),
+        3 => tx_param_setup_req_kept(c.set_max_eirp(low(a))),
+        _ => c,
+    }
+}
+
+fn tx_param_setup_req_verdict(c: TXParamSetupReqCreator, input: &[u8], at: usize) -> u8 {
+    let a = argument(input, at);
+    match byte(input, at) {
+        3 => tx_param_setup_req_number(c.set_max_eirp(low(a))),
+        _ => 0,
     }
 }
 
@@ -278,37 +289,26 @@ fn tx_param_setup_req(input: &[u8]) -> Answer {
     } else {
         TXParamSetupReqCreator::new()
     };
-    let first = tx_param_setup_req_set(c, input, 1);
-    let first_verdict = first.verdict;
-    let c = first.creator;
-    let second = tx_param_setup_req_set(c, input, 6);
-    let second_verdict = second.verdict;
-    let c = second.creator;
-    let third = tx_param_setup_req_set(c, input, 11);
-    let third_verdict = third.verdict;
-    let c = third.creator;
-    let fourth = tx_param_setup_req_set(c, input, 16);
-    let fourth_verdict = fourth.verdict;
-    let c = fourth.creator;
+    let first = tx_param_setup_req_verdict(c, input, 1);
+    let c = tx_param_setup_req_set(c, input, 1);
+    let second = tx_param_setup_req_verdict(c, input, 6);
+    let c = tx_param_setup_req_set(c, input, 6);
+    let third = tx_param_setup_req_verdict(c, input, 11);
+    let c = tx_param_setup_req_set(c, input, 11);
+    let fourth = tx_param_setup_req_verdict(c, input, 16);
+    let c = tx_param_setup_req_set(c, input, 16);
     let image = c.build();
-    let told = verdicts(
-        input,
-        first_verdict,
-        second_verdict,
-        third_verdict,
-        fourth_verdict,
-    ).image(c.cid(), c.len(), &image);
+    let told = verdicts(input, first, second, third, fourth).image(c.cid(), c.len(), &image);
     told_down(told, DownlinkMacCommandCreator::from_tx_param_setup_req(c))
 }
 
 // ---- DlChannelReq.
 
 fn dl_channel_req_set(c: DlChannelReqCreator, input: &[u8], at: usize) -> DlChannelReqCreator {
-    let call = call_at(input, at);
-    let setter = call.setter;
-    match setter {
-        1 => c.set_channel_index(call.byte()),
-        2 => c.set_frequency(call.frequency()),
+    let a = argument(input, at);
+    match byte(input, at) {
+        1 => c.set_channel_index(low(a)),
+        2 => c.set_frequency(frequency(a)),
         _ => c,
     }
 }
@@ -330,24 +330,29 @@ fn dl_channel_req(input: &[u8]) -> Answer {
 
 // ---- DeviceTimeAns.
 
-fn device_time_ans_taken(creator: DeviceTimeAnsCreator) -> DeviceTimeAnsCreatorAnswer {
-    DeviceTimeAnsCreatorAnswer {
-        verdict: Verdict::Accepted,
-        creator,
+fn device_time_ans_kept(answer: DeviceTimeAnsCreatorAnswer) -> DeviceTimeAnsCreator {
+    answer.creator
+}
+
+fn device_time_ans_number(answer: DeviceTimeAnsCreatorAnswer) -> u8 {
+    let verdict = answer.verdict;
+    number(verdict)
+}
+
+fn device_time_ans_set(c: DeviceTimeAnsCreator, input: &[u8], at: usize) -> DeviceTimeAnsCreator {
+    let a = argument(input, at);
+    match byte(input, at) {
+        1 => c.set_seconds(a),
+        2 => device_time_ans_kept(c.set_nano_seconds(a)),
+        _ => c,
     }
 }
 
-fn device_time_ans_set(
-    c: DeviceTimeAnsCreator,
-    input: &[u8],
-    at: usize,
-) -> DeviceTimeAnsCreatorAnswer {
-    let call = call_at(input, at);
-    let setter = call.setter;
-    match setter {
-        1 => device_time_ans_taken(c.set_seconds(call.number())),
-        2 => c.set_nano_seconds(call.number()),
-        _ => device_time_ans_taken(c),
+fn device_time_ans_verdict(c: DeviceTimeAnsCreator, input: &[u8], at: usize) -> u8 {
+    let a = argument(input, at);
+    match byte(input, at) {
+        2 => device_time_ans_number(c.set_nano_seconds(a)),
+        _ => 0,
     }
 }
 
@@ -357,26 +362,16 @@ fn device_time_ans(input: &[u8]) -> Answer {
     } else {
         DeviceTimeAnsCreator::new()
     };
-    let first = device_time_ans_set(c, input, 1);
-    let first_verdict = first.verdict;
-    let c = first.creator;
-    let second = device_time_ans_set(c, input, 6);
-    let second_verdict = second.verdict;
-    let c = second.creator;
-    let third = device_time_ans_set(c, input, 11);
-    let third_verdict = third.verdict;
-    let c = third.creator;
-    let fourth = device_time_ans_set(c, input, 16);
-    let fourth_verdict = fourth.verdict;
-    let c = fourth.creator;
+    let first = device_time_ans_verdict(c, input, 1);
+    let c = device_time_ans_set(c, input, 1);
+    let second = device_time_ans_verdict(c, input, 6);
+    let c = device_time_ans_set(c, input, 6);
+    let third = device_time_ans_verdict(c, input, 11);
+    let c = device_time_ans_set(c, input, 11);
+    let fourth = device_time_ans_verdict(c, input, 16);
+    let c = device_time_ans_set(c, input, 16);
     let image = c.build();
-    let told = verdicts(
-        input,
-        first_verdict,
-        second_verdict,
-        third_verdict,
-        fourth_verdict,
-    ).image(c.cid(), c.len(), &image);
+    let told = verdicts(input, first, second, third, fourth).image(c.cid(), c.len(), &image);
     told_down(told, DownlinkMacCommandCreator::from_device_time_ans(c))
 }
 

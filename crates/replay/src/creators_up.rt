@@ -1,10 +1,14 @@
 // The entries from 41 on, every second: the creators of the commands that are sent up, by themselves, in their enum, and as records.
 use crate::answer::Answer;
+use crate::answer::number;
 use crate::image::accepted;
 use crate::image::told_up;
 use crate::image::verdicts;
-use crate::reading::call_at;
+use crate::reading::argument;
+use crate::reading::byte;
 use crate::reading::is_default;
+use crate::reading::low;
+use crate::reading::signed;
 use creators::DevStatusAnsCreator;
 use creators::DevStatusAnsCreatorAnswer;
 use creators::DeviceTimeReqCreator;
@@ -17,7 +21,6 @@ use creators::RXParamSetupAnsCreator;
 use creators::RXTimingSetupAnsCreator;
 use creators::TXParamSetupAnsCreator;
 use creators::UplinkMacCommandCreator;
-use table::Verdict;
 
 // ---- LinkCheckReq.
 
@@ -35,12 +38,11 @@ fn link_check_req(input: &[u8]) -> Answer {
 // ---- LinkADRAns.
 
 fn link_adr_ans_set(c: LinkADRAnsCreator, input: &[u8], at: usize) -> LinkADRAnsCreator {
-    let call = call_at(input, at);
-    let setter = call.setter;
-    match setter {
-        1 => c.set_channel_mask_ack(call.flag()),
-        2 => c.set_data_rate_ack(call.flag()),
-        3 => c.set_tx_power_ack(call.flag()),
+    let a = argument(input, at);
+    match byte(input, at) {
+        1 => c.set_channel_mask_ack(a != 0),
+        2 => c.set_data_rate_ack(a != 0),
+        3 => c.set_tx_power_ack(a != 0),
         _ => c,
     }
 }
@@ -80,12 +82,11 @@ fn rx_param_setup_ans_set(
     input: &[u8],
     at: usize,
 ) -> RXParamSetupAnsCreator {
-    let call = call_at(input, at);
-    let setter = call.setter;
-    match setter {
-        1 => c.set_channel_ack(call.flag()),
-        2 => c.set_rx2_data_rate_ack(call.flag()),
-        3 => c.set_rx1_data_rate_offset_ack(call.flag()),
+    let a = argument(input, at);
+    match byte(input, at) {
+        1 => c.set_channel_ack(a != 0),
+        2 => c.set_rx2_data_rate_ack(a != 0),
+        3 => c.set_rx1_data_rate_offset_ack(a != 0),
         _ => c,
     }
 }
@@ -107,24 +108,29 @@ fn rx_param_setup_ans(input: &[u8]) -> Answer {
 
 // ---- DevStatusAns.
 
-fn dev_status_ans_taken(creator: DevStatusAnsCreator) -> DevStatusAnsCreatorAnswer {
-    DevStatusAnsCreatorAnswer {
-        verdict: Verdict::Accepted,
-        creator,
+fn dev_status_ans_kept(answer: DevStatusAnsCreatorAnswer) -> DevStatusAnsCreator {
+    answer.creator
+}
+
+fn dev_status_ans_number(answer: DevStatusAnsCreatorAnswer) -> u8 {
+    let verdict = answer.verdict;
+    number(verdict)
+}
+
+fn dev_status_ans_set(c: DevStatusAnsCreator, input: &[u8], at: usize) -> DevStatusAnsCreator {
+    let a = argument(input, at);
+    match byte(input, at) {
+        1 => c.set_battery(low(a)),
+        2 => dev_status_ans_kept(c.set_margin(signed(low(a)))),
+        _ => c,
     }
 }
 
-fn dev_status_ans_set(
-    c: DevStatusAnsCreator,
-    input: &[u8],
-    at: usize,
-) -> DevStatusAnsCreatorAnswer {
-    let call = call_at(input, at);
-    let setter = call.setter;
-    match setter {
-        1 => dev_status_ans_taken(c.set_battery(call.byte())),
-        2 => c.set_margin(call.signed()),
-        _ => dev_status_ans_taken(c),
+fn dev_status_ans_verdict(c: DevStatusAnsCreator, input: &[u8], at: usize) -> u8 {
+    let a = argument(input, at);
+    match byte(input, at) {
+        2 => dev_status_ans_number(c.set_margin(signed(low(a)))),
+        _ => 0,
     }
 }
 
@@ -134,37 +140,26 @@ fn dev_status_ans(input: &[u8]) -> Answer {
     } else {
         DevStatusAnsCreator::new()
     };
-    let first = dev_status_ans_set(c, input, 1);
-    let first_verdict = first.verdict;
-    let c = first.creator;
-    let second = dev_status_ans_set(c, input, 6);
-    let second_verdict = second.verdict;
-    let c = second.creator;
-    let third = dev_status_ans_set(c, input, 11);
-    let third_verdict = third.verdict;
-    let c = third.creator;
-    let fourth = dev_status_ans_set(c, input, 16);
-    let fourth_verdict = fourth.verdict;
-    let c = fourth.creator;
+    let first = dev_status_ans_verdict(c, input, 1);
+    let c = dev_status_ans_set(c, input, 1);
+    let second = dev_status_ans_verdict(c, input, 6);
+    let c = dev_status_ans_set(c, input, 6);
+    let third = dev_status_ans_verdict(c, input, 11);
+    let c = dev_status_ans_set(c, input, 11);
+    let fourth = dev_status_ans_verdict(c, input, 16);
+    let c = dev_status_ans_set(c, input, 16);
     let image = c.build();
-    let told = verdicts(
-        input,
-        first_verdict,
-        second_verdict,
-        third_verdict,
-        fourth_verdict,
-    ).image(c.cid(), c.len(), &image);
+    let told = verdicts(input, first, second, third, fourth).image(c.cid(), c.len(), &image);
     told_up(told, UplinkMacCommandCreator::from_dev_status_ans(c))
 }
 
 // ---- NewChannelAns.
 
 fn new_channel_ans_set(c: NewChannelAnsCreator, input: &[u8], at: usize) -> NewChannelAnsCreator {
-    let call = call_at(input, at);
-    let setter = call.setter;
-    match setter {
-        1 => c.set_channel_frequency_ack(call.flag()),
-        2 => c.set_data_rate_range_ack(call.flag()),
+    let a = argument(input, at);
+    match byte(input, at) {
+        1 => c.set_channel_frequency_ack(a != 0),
+        2 => c.set_data_rate_range_ack(a != 0),
         _ => c,
     }
 }
@@ -213,11 +208,10 @@ fn tx_param_setup_ans(input: &[u8]) -> Answer {
 // ---- DlChannelAns.
 
 fn dl_channel_ans_set(c: DlChannelAnsCreator, input: &[u8], at: usize) -> DlChannelAnsCreator {
-    let call = call_at(input, at);
-    let setter = call.setter;
-    match setter {
-        1 => c.set_channel_frequency_ack(call.flag()),
-        2 => c.set_uplink_frequency_exists_ack(call.flag()),
+    let a = argument(input, at);
+    match byte(input, at) {
+        1 => c.set_channel_frequency_ack(a != 0),
+        2 => c.set_uplink_frequency_exists_ack(a != 0),
         _ => c,
     }
 }

@@ -32,15 +32,19 @@ fn record_of(slot: &[u8]) -> Record {
     }
 }
 
+fn four_of(slots: &[u8]) -> [Record; 4] {
+    [
+        record_of(slots),
+        record_of(from(slots, 8)),
+        record_of(from(slots, 16)),
+        record_of(from(slots, 24)),
+    ]
+}
+
 // The records in slots, of which there are four.
 pub(crate) fn build_records(rules: Rules, slots: &[u8], out: &mut [u8]) -> BuildAnswer {
     if slots.len() == 32 {
-        let first = record_of(slots);
-        let second = record_of(from(slots, 8));
-        let third = record_of(from(slots, 16));
-        let fourth = record_of(from(slots, 24));
-        let records = [first, second, third, fourth];
-        lent::build_four(rules, records, out)
+        lent::build_four(rules, four_of(slots), out)
     } else {
         BuildAnswer::Refused(Refusal::InvalidIndex)
     }

@@ -4,7 +4,6 @@ use crate::reading::calls;
 use build::Record;
 use creators::DownlinkMacCommandCreator;
 use creators::UplinkMacCommandCreator;
-use table::Verdict;
 
 // The verdicts of the input's calls, at most four, that can't be refused.
 pub(crate) fn accepted(input: &[u8]) -> Answer {
@@ -12,12 +11,12 @@ pub(crate) fn accepted(input: &[u8]) -> Answer {
 }
 
 // The verdicts of the input's calls, of which there are so many that they are the first of these.
-pub(crate) fn verdicts(input: &[u8], a: Verdict, b: Verdict, c: Verdict, d: Verdict) -> Answer {
+pub(crate) fn verdicts(input: &[u8], a: u8, b: u8, c: u8, d: u8) -> Answer {
     Answer::new()
-        .verdict(a)
-        .verdict(b)
-        .verdict(c)
-        .verdict(d)
+        .byte(a)
+        .byte(b)
+        .byte(c)
+        .byte(d)
         .cut(calls(input))
 }
 

@@ -1,10 +1,9 @@
 // Entries B0 to B3: the length of a list of records and the build, packed and as structs. The list is given as runs of ten bytes: how
 // often, and the slot.
 use crate::answer::Answer;
-use crate::answer::put_all;
+use crate::answer::put_front;
 use crate::fronts;
 use crate::reading::byte;
-use crate::reading::first;
 use crate::reading::from;
 use crate::reading::rules;
 use crate::reading::two;
@@ -13,11 +12,11 @@ use table::Rules;
 
 fn put_run(run: &[u8], records: &mut [u8], n: usize) -> usize {
     let times = two(run);
-    let slot = first(from(run, 2), 8);
+    let slot = from(run, 2);
     let mut end = n;
     let mut i: usize = 0;
     while i < times {
-        end = put_all(slot, records, end);
+        end = put_front(slot, 8, records, end);
         i += 1;
     }
     end
@@ -61,10 +60,13 @@ fn length_of(structs: bool, rules: Rules, records: &[u8]) -> BuildAnswer {
     }
 }
 
-fn length(structs: bool, input: &[u8], out: &mut [u8]) -> usize {
-    let mut records = io::large_buffer();
-    let n = unpack(from(input, 1), &mut records);
-    told(length_of(structs, rules(input), first(&records, n))).put(out, 0)
+fn length(structs: bool, input: &[u8], records: &mut [u8], out: &mut [u8]) -> usize {
+    let n = unpack(from(input, 1), records);
+    if n <= records.len() {
+        told(length_of(structs, rules(input), &records[0..n])).put(out, 0)
+    } else {
+        0
+    }
 }
 
 fn fill(buffer: &mut [u8], b: u8) {
@@ -95,18 +97,26 @@ fn into_buffer(structs: bool, input: &[u8], records: &[u8], out: &mut [u8]) -> u
     end
 }
 
-fn build(structs: bool, input: &[u8], out: &mut [u8]) -> usize {
-    let mut records = io::large_buffer();
-    let n = unpack(from(input, 4), &mut records);
-    into_buffer(structs, input, first(&records, n), out)
+fn build(structs: bool, input: &[u8], records: &mut [u8], out: &mut [u8]) -> usize {
+    let n = unpack(from(input, 4), records);
+    if n <= records.len() {
+        into_buffer(structs, input, &records[0..n], out)
+    } else {
+        0
+    }
+}
+
+fn answer_in(which: u8, input: &[u8], records: &mut [u8], out: &mut [u8]) -> usize {
+    match which {
+        0 => length(false, input, records, out),
+        1 => build(false, input, records, out),
+        2 => length(true, input, records, out),
+        3 => build(true, input, records, out),
+        _ => 0,
+    }
 }
 
 pub(crate) fn answer(which: u8, input: &[u8], out: &mut [u8]) -> usize {
-    match which {
-        0 => length(false, input, out),
-        1 => build(false, input, out),
-        2 => length(true, input, out),
-        3 => build(true, input, out),
-        _ => 0,
-    }
+    let mut records = io::large_buffer();
+    answer_in(which, input, &mut records, out)
 }

@@ -1,9 +1,6 @@
 // The arguments in a case's input: numbers stand high byte first. A byte past the input's end reads as 0.
 use fields::ChannelMask2;
-use fields::DLSettings;
-use fields::DataRateRange;
 use fields::Frequency;
-use fields::Redundancy;
 use table::Direction;
 use table::Rules;
 ghost use Prim.Native.Nat.{_<_};
@@ -19,11 +16,6 @@ pub(crate) fn flag(s: &[u8], i: usize) -> bool {
 // What is left from a place on; nothing past the end.
 pub(crate) fn from(s: &[u8], i: usize) -> &[u8] {
     if i <= s.len() { &s[i..] } else { &s[..0] }
-}
-
-// The first n; all of them where there are fewer.
-pub(crate) fn first(s: &[u8], n: usize) -> &[u8] {
-    if n <= s.len() { &s[0..n] } else { s }
 }
 
 fn joined_two(a: u8, b: u8) -> u64
@@ -71,28 +63,8 @@ pub(crate) fn rules(s: &[u8]) -> Rules {
     }
 }
 
-// A call of a creator's setter: its number, counted from 1, and its argument at the end of four bytes. Number 0 is no call.
-pub(crate) struct Call {
-    pub(crate) setter: u8,
-    a: u8,
-    b: u8,
-    c: u8,
-    d: u8,
-}
-
-// An input of the creators is a byte that says how the creator starts, and then calls, at most four.
-pub(crate) fn call_at(input: &[u8], at: usize) -> Call {
-    let s = from(input, at);
-    Call {
-        setter: byte(s, 0),
-        a: byte(s, 1),
-        b: byte(s, 2),
-        c: byte(s, 3),
-        d: byte(s, 4),
-    }
-}
-
-// How many calls an input has.
+// How many calls an input of the creators has: it is a byte that says how the creator starts, and then calls, at most four. A call is
+// the setter's number, counted from 1, and its argument at the end of four bytes. Number 0 is no call.
 pub(crate) fn calls(input: &[u8]) -> usize {
     from(input, 1).len() / 5
 }
@@ -101,40 +73,20 @@ pub(crate) fn is_default(input: &[u8]) -> bool {
     flag(input, 0)
 }
 
-impl Call {
-    pub(crate) fn flag(self) -> bool {
-        self.d != 0
-    }
+// The argument of the call at a place.
+pub(crate) fn argument(input: &[u8], at: usize) -> u32 {
+    four(from(from(input, at), 1)) as u32
+}
 
-    pub(crate) fn byte(self) -> u8 {
-        self.d
-    }
+// An argument's last byte.
+pub(crate) fn low(argument: u32) -> u8 {
+    (argument % 256) as u8
+}
 
-    pub(crate) fn signed(self) -> i8 {
-        signed(self.d)
-    }
+pub(crate) fn mask(argument: u32) -> ChannelMask2 {
+    ChannelMask2::from([low(argument / 256), low(argument)])
+}
 
-    pub(crate) fn number(self) -> u32 {
-        joined_four(self.a, self.b, self.c, self.d) as u32
-    }
-
-    pub(crate) fn mask(self) -> ChannelMask2 {
-        ChannelMask2::from([self.c, self.d])
-    }
-
-    pub(crate) fn frequency(self) -> Frequency {
-        Frequency::from([self.b, self.c, self.d])
-    }
-
-    pub(crate) fn redundancy(self) -> Redundancy {
-        Redundancy::new(self.d)
-    }
-
-    pub(crate) fn settings(self) -> DLSettings {
-        DLSettings::new(self.d)
-    }
-
-    pub(crate) fn range(self) -> DataRateRange {
-        DataRateRange::new_from_raw(self.d)
-    }
+pub(crate) fn frequency(argument: u32) -> Frequency {
+    Frequency::from([low(argument / 65536), low(argument / 256), low(argument)])
 }

@@ -2,7 +2,6 @@
 // the step in numbers, the typed command and the payload part must agree.
 use crate::answer::Answer;
 use crate::fronts;
-use crate::reading::first;
 use crate::reading::from;
 use crate::reading::two;
 use build::Record;
@@ -44,11 +43,19 @@ fn behind(rules: Rules, stream: &[u8], at: usize) -> usize {
     }
 }
 
+// The part of the stream holds the first len of the bytes, and no more.
+fn alike(part: &[u8], bytes: &[u8], len: usize) -> bool {
+    if len <= bytes.len() {
+        check::same(part, &bytes[0..len])
+    } else {
+        false
+    }
+}
+
 // A command's payload, and the part of the stream that holds it.
 fn told_payload(told: Answer, bytes: PayloadBytes, part: &[u8]) -> Answer {
     let five = bytes.bytes;
-    told.all(part)
-        .only_where(check::same(part, first(&five, bytes.len)))
+    told.all(part).only_where(alike(part, &five, bytes.len))
 }
 
 fn down_at(stream: &[u8], at: usize) -> Answer {

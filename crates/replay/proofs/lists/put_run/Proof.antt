@@ -18,14 +18,11 @@ two-requires c κs = search needs
 from-requires : tie.Need-from-requires Inv-loop μ-loop
 from-requires c κs = search needs
 
-first-requires : tie.Need-first-requires Inv-loop μ-loop
-first-requires c κs = search needs
-
 loop-holds : tie.Need-loop-holds Inv-loop μ-loop
 loop-holds c = search needs
 
-put-all-requires : tie.Need-put-all-requires Inv-loop μ-loop
-put-all-requires c κs = search needs
+put-front-requires : tie.Need-put-front-requires Inv-loop μ-loop
+put-front-requires c κs = search needs
 
 add-i : tie.Need-add-i Inv-loop μ-loop
 add-i c = search needs
@@ -50,9 +47,8 @@ put-run-spec =
     μ-loop
     two-requires
     from-requires
-    first-requires
     loop-holds
-    put-all-requires
+    put-front-requires
     add-i
     loop-less
     loop-again

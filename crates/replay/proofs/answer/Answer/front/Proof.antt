@@ -1,15 +1,15 @@
--- `all` is safe and ends. Assumes nothing.
+-- `front` is safe and ends. Assumes nothing.
 use Prim.Native.Nat.{_≤_, _-_}
 use lib.ListN.{length}
 use borrow.Author.Needs.{needs}
-use Rattle.replay.proofs.answer.Answer.all.Statement.{statement}
-use Rattle.replay.proofs.answer.Answer.all.Tie as tie
+use Rattle.replay.proofs.answer.Answer.front.Statement.{statement}
+use Rattle.replay.proofs.answer.Answer.front.Tie as tie
 
 abbrev Inv-loop : tie.InvT-loop
-Inv-loop bytes told₀ i₀ told i = i ≤ length bytes
+Inv-loop bytes n told₀ i₀ told i = i ≤ length bytes
 
 abbrev μ-loop : tie.MeasureT-loop
-μ-loop bytes told₀ i₀ told i = length bytes - i
+μ-loop bytes n told₀ i₀ told i = length bytes - i
 
 loop-holds : tie.Need-loop-holds Inv-loop μ-loop
 loop-holds c = search needs
@@ -32,8 +32,8 @@ loop-again c = search needs
 returns : tie.Need-returns Inv-loop μ-loop
 returns c = search needs
 
-pub all-spec : {M : Type 1} → statement M
-all-spec =
+pub front-spec : {M : Type 1} → statement M
+front-spec =
     tie.close
     (tie.spec
     Inv-loop

@@ -1,25 +1,28 @@
--- `put_all` is safe and ends. Assumes nothing.
+-- `put_front` is safe and ends. Assumes nothing.
 use Prim.Native.Nat.{_≤_, _-_}
 use lib.ListN.{length}
 use mathlib.Core.Path.{_≡_}
 use borrow.Author.Needs.{needs}
-use Rattle.replay.proofs.answer.put_all.Statement.{statement}
-use Rattle.replay.proofs.answer.put_all.Tie as tie
+use Rattle.replay.proofs.answer.put_front.Statement.{statement}
+use Rattle.replay.proofs.answer.put_front.Tie as tie
 
 abbrev Inv-loop : tie.InvT-loop
-Inv-loop bytes out₀ at i₀ out i = (i ≤ length bytes) × (length out ≡ length out₀)
+Inv-loop bytes n out₀ at i₀ out i = (i ≤ n) × (length out ≡ length out₀)
 
 abbrev μ-loop : tie.MeasureT-loop
-μ-loop bytes out₀ at i₀ out i = length bytes - i
+μ-loop bytes n out₀ at i₀ out i = n - i
 
 returns : tie.Need-returns Inv-loop μ-loop
 returns c = search needs
 
-sub-if2 : tie.Need-sub-if2 Inv-loop μ-loop
-sub-if2 c = search needs
-
 returns-2 : tie.Need-returns-2 Inv-loop μ-loop
 returns-2 c = search needs
+
+sub-if3 : tie.Need-sub-if3 Inv-loop μ-loop
+sub-if3 c = search needs
+
+returns-3 : tie.Need-returns-3 Inv-loop μ-loop
+returns-3 c = search needs
 
 loop-holds : tie.Need-loop-holds Inv-loop μ-loop
 loop-holds c = search needs
@@ -48,18 +51,19 @@ add-result c = search needs
 same-length : tie.Need-same-length Inv-loop μ-loop
 same-length c = search needs
 
-returns-3 : tie.Need-returns-3 Inv-loop μ-loop
-returns-3 c = search needs
+returns-4 : tie.Need-returns-4 Inv-loop μ-loop
+returns-4 c = search needs
 
-pub put-all-spec : {M : Type 1} → statement M
-put-all-spec =
+pub put-front-spec : {M : Type 1} → statement M
+put-front-spec =
     tie.close
     (tie.spec
     Inv-loop
     μ-loop
     returns
-    sub-if2
     returns-2
+    sub-if3
+    returns-3
     loop-holds
     shared-slice-read-out
     add-out
@@ -69,4 +73,4 @@ put-all-spec =
     loop-again
     add-result
     same-length
-    returns-3)
+    returns-4)
