@@ -37,27 +37,87 @@ one-in c k key rule = arm-in c k 1 _ key rule (bytes-from 0 (c .args .stream .no
 left-in : (c : tie.Start) → lengthIn (without 4 rows) Down (c .args .cid) ≡ none → c .args .cid ≡ 0x06
 left-in c h = row-left 4 rows Down (c .args .cid) _ h (known-is (lengthOf sentDown) (c .args .stream .now) (c .args .at) (c .args .cid) (c .pre))
 
+add-body : tie.Need-add-body
+add-body c = let m = cid-in (c .before) in omega arith
+
+two-at-requires : tie.Need-two-at-requires
+two-at-requires c κs = room-in (c .before .before) 0x02 2 (c .match .keys1) refl
+
+four-at-requires : tie.Need-four-at-requires
+four-at-requires c κs = room-in (c .before .before) 0x03 4 (c .match .keys2) refl
+
+shared-slice-read-b : tie.Need-shared-slice-read-b
+shared-slice-read-b c = let m = room-in (c .before .before .before) 0x04 1 (c .before .match .keys3) refl in omega arith
+
+four-at-requires-2 : tie.Need-four-at-requires-2
+four-at-requires-2 c κs = room-in (c .before .before) 0x05 4 (c .match .keys4) refl
+
+five-at-requires : tie.Need-five-at-requires
+five-at-requires c κs = room-in (c .before .before) 0x07 5 (c .match .keys5) refl
+
+shared-slice-read-b-2 : tie.Need-shared-slice-read-b-2
+shared-slice-read-b-2 c = let m = room-in (c .before .before .before) 0x08 1 (c .before .match .keys6) refl in omega arith
+
+shared-slice-read-b-3 : tie.Need-shared-slice-read-b-3
+shared-slice-read-b-3 c = let m = room-in (c .before .before .before) 0x09 1 (c .before .match .keys7) refl in omega arith
+
+four-at-requires-3 : tie.Need-four-at-requires-3
+four-at-requires-3 c κs = room-in (c .before .before) 0x0A 4 (c .match .keys8) refl
+
+five-at-requires-2 : tie.Need-five-at-requires-2
+five-at-requires-2 c κs = room-in (c .before .before) 0x0D 5 (c .match .keys9) refl
+
+returns : tie.Need-returns
+returns c = arm-in (c .before .before .before) 0x02 2 _ (c .before .match .keys1) refl (c .two-at .ensures)
+
+returns-2 : tie.Need-returns-2
+returns-2 c = arm-in (c .before .before .before) 0x03 4 _ (c .before .match .keys2) refl (c .four-at .ensures)
+
+returns-3 : tie.Need-returns-3
+returns-3 c = one-in (c .before .before .before) 0x04 (c .before .match .keys3) refl
+
+returns-4 : tie.Need-returns-4
+returns-4 c = arm-in (c .before .before .before) 0x05 4 _ (c .before .match .keys4) refl (c .four-at2 .ensures)
+
+returns-5 : tie.Need-returns-5
+returns-5 c = arm-in (c .before .before .before) 0x07 5 _ (c .before .match .keys5) refl (c .five-at .ensures)
+
+returns-6 : tie.Need-returns-6
+returns-6 c = one-in (c .before .before .before) 0x08 (c .before .match .keys6) refl
+
+returns-7 : tie.Need-returns-7
+returns-7 c = one-in (c .before .before .before) 0x09 (c .before .match .keys7) refl
+
+returns-8 : tie.Need-returns-8
+returns-8 c = arm-in (c .before .before .before) 0x0A 4 _ (c .before .match .keys8) refl (c .four-at3 .ensures)
+
+returns-9 : tie.Need-returns-9
+returns-9 c = arm-in (c .before .before .before) 0x0D 5 _ (c .before .match .keys9) refl (c .five-at2 .ensures)
+
+returns-10 : tie.Need-returns-10
+returns-10 c = arm-in (c .before .before) 0x06 0 _ (left-in (c .before .before) (missing (without 4 rows) Down _ (c .match .rest))) refl refl
+
 pub downlink-command-spec : {M : Type 1} → statement M
 downlink-command-spec =
     tie.close
     (tie.spec
-    (λ c. let m = cid-in (c .before) in omega arith)
-    (λ c κs. room-in (c .before .before) 0x02 2 (c .match .keys1) refl)
-    (λ c κs. room-in (c .before .before) 0x03 4 (c .match .keys2) refl)
-    (λ c. let m = room-in (c .before .before .before) 0x04 1 (c .before .match .keys3) refl in omega arith)
-    (λ c κs. room-in (c .before .before) 0x05 4 (c .match .keys4) refl)
-    (λ c κs. room-in (c .before .before) 0x07 5 (c .match .keys5) refl)
-    (λ c. let m = room-in (c .before .before .before) 0x08 1 (c .before .match .keys6) refl in omega arith)
-    (λ c. let m = room-in (c .before .before .before) 0x09 1 (c .before .match .keys7) refl in omega arith)
-    (λ c κs. room-in (c .before .before) 0x0A 4 (c .match .keys8) refl)
-    (λ c κs. room-in (c .before .before) 0x0D 5 (c .match .keys9) refl)
-    (λ c. arm-in (c .before .before .before) 0x02 2 _ (c .before .match .keys1) refl (c .two-at .ensures))
-    (λ c. arm-in (c .before .before .before) 0x03 4 _ (c .before .match .keys2) refl (c .four-at .ensures))
-    (λ c. one-in (c .before .before .before) 0x04 (c .before .match .keys3) refl)
-    (λ c. arm-in (c .before .before .before) 0x05 4 _ (c .before .match .keys4) refl (c .four-at2 .ensures))
-    (λ c. arm-in (c .before .before .before) 0x07 5 _ (c .before .match .keys5) refl (c .five-at .ensures))
-    (λ c. one-in (c .before .before .before) 0x08 (c .before .match .keys6) refl)
-    (λ c. one-in (c .before .before .before) 0x09 (c .before .match .keys7) refl)
-    (λ c. arm-in (c .before .before .before) 0x0A 4 _ (c .before .match .keys8) refl (c .four-at3 .ensures))
-    (λ c. arm-in (c .before .before .before) 0x0D 5 _ (c .before .match .keys9) refl (c .five-at2 .ensures))
-    (λ c. arm-in (c .before .before) 0x06 0 _ (left-in (c .before .before) (missing (without 4 rows) Down _ (c .match .rest))) refl refl))
+    add-body
+    two-at-requires
+    four-at-requires
+    shared-slice-read-b
+    four-at-requires-2
+    five-at-requires
+    shared-slice-read-b-2
+    shared-slice-read-b-3
+    four-at-requires-3
+    five-at-requires-2
+    returns
+    returns-2
+    returns-3
+    returns-4
+    returns-5
+    returns-6
+    returns-7
+    returns-8
+    returns-9
+    returns-10)

@@ -37,23 +37,71 @@ one-in c k key rule = arm-in c k 1 _ key rule (bytes-from 0 (c .args .stream .no
 left-in : (c : tie.Start) → lengthIn (without 4 rows) Up (c .args .cid) ≡ none → c .args .cid ≡ 0x06
 left-in c h = row-left 4 rows Up (c .args .cid) _ h (known-is (lengthOf sentUp) (c .args .stream .now) (c .args .at) (c .args .cid) (c .pre))
 
+add-body : tie.Need-add-body
+add-body c = let m = cid-in (c .before) in omega arith
+
+shared-slice-read-b : tie.Need-shared-slice-read-b
+shared-slice-read-b c = let m = room-in (c .before .before .before) 0x03 1 (c .before .match .keys2) refl in omega arith
+
+shared-slice-read-b-2 : tie.Need-shared-slice-read-b-2
+shared-slice-read-b-2 c = let m = room-in (c .before .before .before) 0x05 1 (c .before .match .keys4) refl in omega arith
+
+shared-slice-read-b-3 : tie.Need-shared-slice-read-b-3
+shared-slice-read-b-3 c = let m = room-in (c .before .before .before) 0x07 1 (c .before .match .keys5) refl in omega arith
+
+shared-slice-read-b-4 : tie.Need-shared-slice-read-b-4
+shared-slice-read-b-4 c = let m = room-in (c .before .before .before) 0x0A 1 (c .before .match .keys8) refl in omega arith
+
+two-at-requires : tie.Need-two-at-requires
+two-at-requires c κs = room-in (c .before .before) 0x06 2 (left-in (c .before .before) (missing (without 4 rows) Up _ (c .match .rest))) refl
+
+returns : tie.Need-returns
+returns c = arm-in (c .before .before) 0x02 0 _ (c .match .keys1) refl refl
+
+returns-2 : tie.Need-returns-2
+returns-2 c = one-in (c .before .before .before) 0x03 (c .before .match .keys2) refl
+
+returns-3 : tie.Need-returns-3
+returns-3 c = arm-in (c .before .before) 0x04 0 _ (c .match .keys3) refl refl
+
+returns-4 : tie.Need-returns-4
+returns-4 c = one-in (c .before .before .before) 0x05 (c .before .match .keys4) refl
+
+returns-5 : tie.Need-returns-5
+returns-5 c = one-in (c .before .before .before) 0x07 (c .before .match .keys5) refl
+
+returns-6 : tie.Need-returns-6
+returns-6 c = arm-in (c .before .before) 0x08 0 _ (c .match .keys6) refl refl
+
+returns-7 : tie.Need-returns-7
+returns-7 c = arm-in (c .before .before) 0x09 0 _ (c .match .keys7) refl refl
+
+returns-8 : tie.Need-returns-8
+returns-8 c = one-in (c .before .before .before) 0x0A (c .before .match .keys8) refl
+
+returns-9 : tie.Need-returns-9
+returns-9 c = arm-in (c .before .before) 0x0D 0 _ (c .match .keys9) refl refl
+
+returns-10 : tie.Need-returns-10
+returns-10 c = arm-in (c .before .before .before) 0x06 2 _ (left-in (c .before .before .before) (missing (without 4 rows) Up _ (c .before .match .rest))) refl (c .two-at .ensures)
+
 pub uplink-command-spec : {M : Type 1} → statement M
 uplink-command-spec =
     tie.close
     (tie.spec
-    (λ c. let m = cid-in (c .before) in omega arith)
-    (λ c. let m = room-in (c .before .before .before) 0x03 1 (c .before .match .keys2) refl in omega arith)
-    (λ c. let m = room-in (c .before .before .before) 0x05 1 (c .before .match .keys4) refl in omega arith)
-    (λ c. let m = room-in (c .before .before .before) 0x07 1 (c .before .match .keys5) refl in omega arith)
-    (λ c. let m = room-in (c .before .before .before) 0x0A 1 (c .before .match .keys8) refl in omega arith)
-    (λ c κs. room-in (c .before .before) 0x06 2 (left-in (c .before .before) (missing (without 4 rows) Up _ (c .match .rest))) refl)
-    (λ c. arm-in (c .before .before) 0x02 0 _ (c .match .keys1) refl refl)
-    (λ c. one-in (c .before .before .before) 0x03 (c .before .match .keys2) refl)
-    (λ c. arm-in (c .before .before) 0x04 0 _ (c .match .keys3) refl refl)
-    (λ c. one-in (c .before .before .before) 0x05 (c .before .match .keys4) refl)
-    (λ c. one-in (c .before .before .before) 0x07 (c .before .match .keys5) refl)
-    (λ c. arm-in (c .before .before) 0x08 0 _ (c .match .keys6) refl refl)
-    (λ c. arm-in (c .before .before) 0x09 0 _ (c .match .keys7) refl refl)
-    (λ c. one-in (c .before .before .before) 0x0A (c .before .match .keys8) refl)
-    (λ c. arm-in (c .before .before) 0x0D 0 _ (c .match .keys9) refl refl)
-    (λ c. arm-in (c .before .before .before) 0x06 2 _ (left-in (c .before .before .before) (missing (without 4 rows) Up _ (c .before .match .rest))) refl (c .two-at .ensures)))
+    add-body
+    shared-slice-read-b
+    shared-slice-read-b-2
+    shared-slice-read-b-3
+    shared-slice-read-b-4
+    two-at-requires
+    returns
+    returns-2
+    returns-3
+    returns-4
+    returns-5
+    returns-6
+    returns-7
+    returns-8
+    returns-9
+    returns-10)
