@@ -3,12 +3,6 @@
 //! `tools/bench` builds and runs it; docs/SPEED.md has the figures.
 
 mod inputs;
-#[path = "../docs/src/src/maccommandcreator.rs"]
-#[allow(dead_code, unexpected_cfgs)]
-mod maccommandcreator;
-#[path = "../docs/src/src/maccommands.rs"]
-#[allow(dead_code, unexpected_cfgs, mismatched_lifetime_syntaxes)]
-mod maccommands;
 mod original;
 #[path = "../oracle/parser.rs"]
 mod parser;
@@ -18,7 +12,8 @@ mod port;
 mod rng;
 
 use inputs::{wishes, Order, Streams, Wish};
-use maccommands::SerializableMacCommand;
+use original::building::{self, maccommands::SerializableMacCommand};
+use original::{counting, iterating, reading};
 use std::cell::RefCell;
 use std::fmt::{Debug, Formatter};
 use std::hint::black_box;
@@ -116,16 +111,16 @@ impl Case {
 
     fn ready(self, seed: u64) -> Ready {
         match self.work {
-            Work::Count => self.over_streams(Streams::whole, seed, original::count, port::count),
-            Work::CountDamaged => self.over_streams(Streams::damaged, seed, original::count, port::count),
-            Work::Iterate => self.over_streams(Streams::whole, seed, original::nth, port::nth),
-            Work::Fields => self.over_streams(Streams::whole, seed, original::fields, port::fields),
+            Work::Count => self.over_streams(Streams::whole, seed, counting::count, port::count),
+            Work::CountDamaged => self.over_streams(Streams::damaged, seed, counting::count, port::count),
+            Work::Iterate => self.over_streams(Streams::whole, seed, iterating::nth, port::nth),
+            Work::Fields => self.over_streams(Streams::whole, seed, reading::fields, port::fields),
             Work::Set | Work::SetStructs => {
                 let lists = self.lists(seed).iter().map(|list| list.as_slice()).collect();
                 let rust = match self.size {
-                    4096 => original::set::<4096>,
-                    64 => original::set::<64>,
-                    _ => original::set::<4>,
+                    4096 => original::set_4096::set,
+                    64 => original::set_64::set,
+                    _ => original::set_4::set,
                 };
                 let rattle = if self.work == Work::Set { port::set } else { port::set_four };
                 self.over_lists(lists, rust, rattle)
@@ -133,9 +128,9 @@ impl Case {
             Work::Resend => {
                 let streams = self.lists(seed).iter().map(|list| &*Vec::leak(stream(list))).collect();
                 let rust = match self.size {
-                    4096 => original::resend::<4096>,
-                    64 => original::resend::<64>,
-                    _ => original::resend::<4>,
+                    4096 => original::resend_4096::resend,
+                    64 => original::resend_64::resend,
+                    _ => original::resend_4::resend,
                 };
                 self.over_lists(streams, rust, port::resend)
             }
@@ -199,7 +194,7 @@ impl Case {
     /// Creators that are made and set, and their slots.
     fn made(self, seed: u64) -> Vec<&'static Made> {
         let made = |wishes: &'static Vec<Wish>| {
-            let creators: &'static [_] = wishes.iter().map(original::creator).collect::<Vec<_>>().leak();
+            let creators: &'static [_] = wishes.iter().map(building::creator).collect::<Vec<_>>().leak();
             let objects: Vec<&dyn SerializableMacCommand> = creators.iter().map(|creator| creator as _).collect();
             let mut slots = vec![0; 8 * objects.len()];
             port::pack(&objects, &mut slots);
@@ -222,12 +217,12 @@ impl Debug for Made {
 }
 
 fn on_objects(list: &Made, out: &mut [u8]) -> u64 {
-    original::build(&list.objects, out)
+    building::build(&list.objects, out)
 }
 
 /// The stream that the creators of these wishes make.
 fn stream(wishes: &Vec<Wish>) -> Vec<u8> {
-    wishes.iter().flat_map(|wish| original::creator(wish).build().to_vec()).collect()
+    wishes.iter().flat_map(|wish| building::creator(wish).build().to_vec()).collect()
 }
 
 /// A case with its inputs: what each side does with all of them, one after the other.

@@ -1,7 +1,7 @@
 //! The port: the crates `exports`, `timed_reads` and `timed_builds`, linked as archives. A slice crosses as its pointer and its length.
 
 use crate::inputs::Wish;
-use crate::maccommands::SerializableMacCommand;
+use crate::original::building::maccommands::SerializableMacCommand;
 
 extern "C" {
     fn nazhdivar_count(stream: *const u8, len: usize) -> usize;

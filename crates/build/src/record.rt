@@ -120,15 +120,18 @@ fn len_byte(len: usize) -> u8
     if len < 256 { len as u8 } else { 255 }
 }
 
-// The first n of the bytes, put over those of out from an offset on.
+// The first n of the bytes, put over those of out from an offset on. The loop goes over all bytes, whose number each caller knows, so that the
+// compiler unrolls it: of one that ends with n it makes a call.
 fn copy(bytes: &[u8], n: usize, out: &mut [u8], at: usize)
     requires { ⌜ n ≤ length (now bytes) ⌝ }
     requires { ⌜ at + n ≤ length (now out) ⌝ }
     ensures { λ _. ⌜ now (out .exit) ≡ paste (now (out .entry)) at (now (bytes .entry)) n ⌝ }
 {
     let mut j = 0;
-    while j < n {
-        out[at + j] = bytes[j];
+    while j < bytes.len() {
+        if j < n {
+            out[at + j] = bytes[j];
+        }
         j += 1;
     }
 }
