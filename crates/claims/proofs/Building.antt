@@ -1,9 +1,7 @@
 -- What the builds answer and leave: crates/claims/specs/Building.antt. Assumes nothing.
-use Prim.Native.Nat.{ℕ, suc, _+_, _<_, _≤_}
+use Prim.Native.Nat.{ℕ, suc, _<_, _≤_}
 use mathlib.Core.Bool.{Bool, true, false, cond}
-use mathlib.Core.List.{List, [], _∷_, map}
-use mathlib.Core.Logic.{_↔_}
-use mathlib.Core.Option.{some}
+use mathlib.Core.List.{List, [], _∷_}
 use mathlib.Core.Path.{_≡_, refl, sym, ap, _∙_, subst}
 use native.Mathlib.Decide.{decLe}
 use native.Mathlib.Omega.{arith}
@@ -12,49 +10,26 @@ use lib.Dec.{leb}
 use lib.ListN.{length, take, drop}
 use lib.Seq.{take-append-seam}
 use borrow.Author.Tests.{le-leb, lt-leb}
-use denote.Ref.{RefT, now}
+use denote.Ref.{now}
 use Rattle.bits.specs.Every.{Every}
 use Rattle.table.specs.Table.{lengthOf}
 use Rattle.table.specs.declared.rules.Rules.{Rules}
 use Rattle.table.proofs.Lengths.{at-most-five}
-use Rattle.walk.specs.Walk.{Rule, Cmd, Placed, Walk, Ending, end, encode, place, bare, walkOf}
-use Rattle.build.specs.Records.{Item, whole, part, cmdsOf, slotsOf, over}
+use Rattle.walk.specs.Walk.{Rule, Cmd, Walk, end, encode, place, bare, walkOf}
+use Rattle.walk.proofs.Ownership.{bare-place}
+use Rattle.build.specs.Records.{Item, whole, part, cmdsOf, over}
 use Rattle.build.specs.Build.{Built, total, refusedAt, refused, totalOf, fill, buildOf}
 use Rattle.build.specs.ThereAndBack.{Commands, Full}
 use Rattle.build.specs.declared.record.Record.{Record}
 use Rattle.build.proofs.Slots.{slots-full}
 use Rattle.build.proofs.ThereAndBack as ThereAndBack
 use Rattle.lent.specs.Records.{itemsOf}
-use Rattle.claims.specs.Building.{
-  Five,
-  Builder,
-  FromSlots,
-  FromStructs,
-  FromFour,
-  LenOfSlots,
-  LenOfStructs,
-  asked-length,
-  IsRefusal,
-  StandsFor,
-  RefusedKeeps,
-  BuiltReadsBack,
-  AcceptsExactly,
-  SameBytesSameList,
-  LengthAgrees,
-  same,
-  no-room,
-  LengthForBuild,
-  AsDefined,
-  BuildsAsDefined,
-  RightBuild,
-  Builds,
-}
+use Rattle.claims.specs.Building.{Five, Builder, FromSlots, FromStructs, FromFour, LenOfSlots, LenOfStructs, asked-length, IsRefusal, StandsFor, RefusedKeeps, BuiltReadsBack, AcceptsExactly, SameBytesSameList, LengthAgrees, same, no-room, LengthForBuild, BuildsAsDefined, RightBuild, Builds}
 use Rattle.claims.specs.Building as Building
 use Rattle.claims.specs.Handing.{ReadAs}
 use Rattle.claims.proofs.ByHand.{built-set, build-set}
 use Rattle.claims.proofs.Handing.{reads}
 use Rattle.claims.proofs.Lists.{every-list-built}
-use Rattle.claims.proofs.Owning.{bare-place}
 
 -- ---- each build answers and leaves what the definition says
 

@@ -1,19 +1,19 @@
 -- The chooser's rules: crates/claims/specs/Choosing.antt. Assumes nothing.
-use Prim.Native.Nat.{ℕ, _<_, _≤_}
+use Prim.Native.Nat.{ℕ}
 use mathlib.Core.Bool.{Bool, true, false, cond, _&&_}
 use mathlib.Core.List.{List}
 use mathlib.Core.Option.{Option, none, some}
-use mathlib.Core.Path.{_≡_, refl, sym, ap, _∙_, subst}
+use mathlib.Core.Path.{_≡_, refl, sym, ap, _∙_}
 use native.Mathlib.Omega.{arith}
 use lib.Dec.{ltb, eqb}
 use lib.ListN.{length}
-use borrow.Author.Tests.{lt-ltb, le-ltb, ltb-true, ltb-false, eqb-true}
+use borrow.Author.Tests.{lt-ltb, le-ltb, ltb-true, eqb-true}
 use denote.Ref.{RefT, now}
-use Rattle.table.specs.Answers.{Consent, given, refused, accepted}
+use Rattle.table.specs.Answers.{Consent, refused, accepted}
 use Rattle.table.specs.Told.{toldVerdict}
 use Rattle.table.specs.declared.refusal.Verdict.{Verdict}
-use Rattle.walk.specs.Chooser.{nonEmpty, isNone, isZero, withoutPort, tooLong, inPayload, inBoth, verdictOf, byVerdict, chosen}
-use Rattle.walk.specs.Part.{shown, emptyFront}
+use Rattle.walk.specs.Chooser.{nonEmpty, isNone, isZero, withoutPort, tooLong, inPayload, inBoth, verdictOf, byVerdict}
+use Rattle.walk.specs.Part.{shown}
 use Rattle.walk.specs.Told.{toldPort}
 use Rattle.walk.specs.declared.chooser.Port.{Port}
 use Rattle.walk.proofs.chooser.choose.Reads as choose

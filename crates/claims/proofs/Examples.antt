@@ -4,9 +4,8 @@ use mathlib.Core.Bool.{Bool}
 use mathlib.Core.List.{List, [], _∷_, _++_}
 use mathlib.Core.Path.{_≡_, refl, ap, _∙_, subst}
 use native.Mathlib.Omega.{arith}
-use denote.Ref.{RefT, now}
 use Rattle.bits.specs.Every.{Every}
-use Rattle.table.specs.Answers.{Answer, Consent, given, refused, accepted}
+use Rattle.table.specs.Answers.{given, refused, accepted}
 use Rattle.table.specs.Table.{lengthOf, named}
 use Rattle.table.specs.declared.rules.Direction.the-variants.{Up}
 use Rattle.fields.specs.Frequency.{bytesOf, hertz}
@@ -20,9 +19,9 @@ use Rattle.fields.specs.declared.frequency.FrequencyAnswer.the-variants as Freq
 use Rattle.payloads.specs.Acceptance.{LinkADRAns·accepts, NewChannelAns·accepts, DlChannelAns·accepts}
 use Rattle.payloads.specs.Meanings.{marginOf, maxEirpOf, secondsOf}
 use Rattle.creators.specs.Image.{newOf, putAt, putBytes, checkedAt}
-use Rattle.creators.specs.Setters.{isMargin, sixBits, marginAt, dwellAt, lowBytes, secondsAt, nanoSecondsAt}
+use Rattle.creators.specs.Setters.{isMargin, marginAt, dwellAt, lowBytes, secondsAt, nanoSecondsAt}
 use Rattle.walk.specs.Walk.{Walk, go, walkOf}
-use Rattle.build.specs.Build.{Built, sumFrom, buildOf}
+use Rattle.build.specs.Build.{sumFrom, buildOf}
 use Rattle.build.specs.Records.{slotsOf}
 use Rattle.lent.specs.Records.{itemsOf}
 use Rattle.claims.specs.Examples.{

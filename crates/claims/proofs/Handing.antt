@@ -1,10 +1,10 @@
 -- What the public entries hand out is the defined walk: crates/claims/specs/Handing.antt and Owning.antt. Assumes nothing.
-use Prim.Native.Nat.{ℕ, _+_, _≤_}
+use Prim.Native.Nat.{ℕ, _+_}
 use mathlib.Core.Bool.{Bool, cond}
-use mathlib.Core.List.{List, [], _∷_, _++_, append-nil, append-assoc}
+use mathlib.Core.List.{List, [], _∷_, _++_, append-assoc}
 use mathlib.Core.Path.{_≡_, refl, sym, ap, _∙_, subst}
 use native.Mathlib.Omega.{arith}
-use lib.ListN.{length, take, drop, length-append}
+use lib.ListN.{length, drop, length-append}
 use lib.Seq.{length-take-le}
 use borrow.Author.Tests.{le-leb}
 use base.Logic.{id⊢}
@@ -15,44 +15,18 @@ use Rattle.table.specs.Answers.{Answer, given, refused}
 use Rattle.table.specs.Table.{lengthOf}
 use Rattle.table.specs.declared.rules.Rules.{Rules}
 use Rattle.payloads.specs.Commands.{sentUp, sentDown}
-use Rattle.walk.specs.Ownership.{offsetOf, Ends, Owned}
-use Rattle.walk.specs.Part.{Part, shown, payloadPart, partOf, emptyFront}
-use Rattle.walk.specs.Step.{Found, ended, command, stopped, Heading, firstOf, firstMove, foundAt, inNumbers, stepAt, tally}
-use Rattle.walk.specs.Told.{toldStep, toldWalk}
-use Rattle.walk.specs.Walk.{Rule, Cmd, Placed, Ending, end, stop, placeOf, Walk, WellFormed, encode, size, place, bare, walkFrom, walkOf}
+use Rattle.walk.specs.Ownership.{offsetOf, Owned}
+use Rattle.walk.specs.Part.{Part, shown, payloadPart}
+use Rattle.walk.specs.Step.{Found, ended, command, stopped, Heading, firstOf, firstMove, foundAt, inNumbers, stepAt}
+use Rattle.walk.specs.Told.{toldStep}
+use Rattle.walk.specs.Walk.{Rule, Cmd, Placed, Ending, end, stop, Walk, encode, size, bare, walkFrom, walkOf}
 use Rattle.walk.specs.declared.step.Step.{Step}
-use Rattle.walk.specs.declared.whole.WalkEnd.{WalkEnd}
 use Rattle.walk.proofs.Ownership as Ownership
 use Rattle.walk.proofs.Steps.{ended-no-command}
 use Rattle.lent.specs.Iterator.{movedTo, fresh, nexted}
 use Rattle.lent.specs.declared.iterator.MacCommandIterator.{MacCommandIterator}
 use Rattle.lent.proofs.iterator.MacCommandIterator.next as next
-use Rattle.claims.specs.Handing.{
-  Front,
-  withPayload,
-  onward,
-  byOffsets,
-  StepAsked,
-  UplinkAsked,
-  DownlinkAsked,
-  Made,
-  by-new,
-  parsed-up,
-  parsed-down,
-  NextAsked,
-  NoCommand,
-  Calls,
-  begun,
-  handed,
-  none-handed,
-  Between,
-  HandsOut,
-  ReadAs,
-  steps,
-  uplinkSteps,
-  downlinkSteps,
-  iterator,
-}
+use Rattle.claims.specs.Handing.{Front, withPayload, onward, byOffsets, StepAsked, UplinkAsked, DownlinkAsked, Made, by-new, parsed-up, parsed-down, NextAsked, NoCommand, Calls, begun, handed, none-handed, HandsOut, ReadAs, steps, uplinkSteps, downlinkSteps, iterator}
 use Rattle.claims.specs.Handing as Handing
 use Rattle.claims.specs.Outcomes.{Admits}
 use Rattle.claims.proofs.ByHand.{iterator-set, next-set}

@@ -1,8 +1,8 @@
 -- Every list of well-formed commands can be handed to each of the builds: crates/claims/specs/Building.antt. Assumes nothing.
 use Prim.Native.Nat.{ℕ, zero, suc, _+_, _*_, _<_, _≤_}
 use mathlib.Core.Bool.{Bool, true, false, cond}
-use mathlib.Core.List.{List, [], _∷_, _++_, map}
-use mathlib.Core.Option.{Option, none, some}
+use mathlib.Core.List.{List, [], _∷_, map}
+use mathlib.Core.Option.{some}
 use mathlib.Core.Path.{_≡_, refl, sym, ap, _∙_, subst}
 use native.Mathlib.Omega.{arith}
 use lib.Dec.{eqb, lit≤}
@@ -15,13 +15,12 @@ use Rattle.table.specs.declared.rules.Direction.{Direction}
 use Rattle.table.specs.declared.rules.Rules.{Rules}
 use Rattle.table.proofs.Lengths.{at-most-five}
 use Rattle.walk.specs.Walk.{Rule, Cmd, WellFormed}
-use Rattle.build.specs.Records.{Rec, Item, whole, part, cmdOf, cmdsOf, heldBy, noRecord, slotAt, slotsOf}
-use Rattle.build.specs.ThereAndBack.{Commands, Full}
+use Rattle.build.specs.Records.{Rec, whole, cmdsOf, heldBy, noRecord, slotAt, slotsOf}
 use Rattle.build.specs.declared.record.Record.{Record}
-use Rattle.lent.specs.Packing.{inSlot, Packed}
+use Rattle.lent.specs.Packing.{inSlot}
 use Rattle.lent.specs.Records.{recsOf, itemsOf}
 use Rattle.lent.proofs.Packing.{short-stays, slots-are, slot-same}
-use Rattle.claims.specs.Building.{Five, Byte, StandsFor, CanBeBuilt, EveryListBuilt}
+use Rattle.claims.specs.Building.{Five, Byte, StandsFor, EveryListBuilt}
 
 -- ---- a record and a slot of a command
 

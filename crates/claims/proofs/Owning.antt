@@ -2,9 +2,8 @@
 use Prim.Native.Nat.{ℕ, suc, _+_, _≤_}
 use mathlib.Core.List.{List, [], _∷_, _++_, append-nil}
 use mathlib.Core.Path.{_≡_, refl, sym, ap, _∙_, subst}
-use native.Mathlib.Nat.{add-assoc}
 use native.Mathlib.Omega.{arith}
-use lib.ListN.{length, take, drop, length-append, length-map}
+use lib.ListN.{length, take, drop, length-append}
 use denote.Ref.{RefT, now}
 use Rattle.table.specs.Answers.{Answer, given, refused}
 use Rattle.table.specs.Table.{lengthOf}
@@ -13,26 +12,22 @@ use Rattle.payloads.specs.Commands.{sentUp, sentDown}
 use Rattle.walk.specs.Ownership.{offsetOf, Ends}
 use Rattle.walk.specs.Part.{shown, payloadPart, partOf, emptyFront}
 use Rattle.walk.specs.Step.{Found, ended, command, stopped, Heading, firstOf, foundAt, inNumbers, stepAt}
-use Rattle.walk.specs.Told.{toldStep}
 use Rattle.walk.specs.Walk.{Rule, Cmd, Placed, Ending, placeOf, WellFormed, encode, size, place, bare, walkOf}
 use Rattle.walk.specs.declared.step.Step.{Step}
 use Rattle.walk.specs.declared.whole.WalkEnd.{WalkEnd}
 use Rattle.walk.proofs.Ownership as Ownership
+use Rattle.walk.proofs.Ownership.{bare-place}
 use Rattle.walk.proofs.Steps.{found-command}
 use Rattle.walk.proofs.Told.{step-tells}
 use Rattle.walk.proofs.step.step_at.Reads as step-at
 use Rattle.walk.proofs.step.payload_at.Reads as payload-at
 use Rattle.walk.proofs.whole.walk.Reads as walk
-use Rattle.claims.specs.Handing.{Front, withPayload, onward, NoCommand, Calls, none-handed, steps, uplinkSteps, downlinkSteps, iterator}
+use Rattle.claims.specs.Handing.{Front, withPayload, NoCommand, none-handed, steps, uplinkSteps, downlinkSteps, iterator}
 use Rattle.claims.specs.Outcomes.{Gives}
 use Rattle.claims.specs.Owning.{OwnsBytes, StopsThere, Begins, all-out, coming, FrontsBegin, OneOwnerBy, WholeWalk, ShownBehind, OneOwner, NextIsStep}
 use Rattle.claims.proofs.Handing.{bare-append, next-says, stands-behind, Faithful, Position, position, answered, reads, steps-faithful, uplink-faithful, downlink-faithful, iterator-faithful}
 
 -- ---- lists
-
-pub bare-place : (at : ℕ) (cs : List Cmd) → bare (place at cs) ≡ cs
-bare-place at [] = refl
-bare-place at (c ∷ cs) = ap (λ (l : List Cmd). c ∷ l) (bare-place (at + size c) cs)
 
 bare-length : (ps : List Placed) → length (bare ps) ≡ length ps
 bare-length [] = refl

@@ -16,7 +16,7 @@ use Rattle.walk.specs.Walk.{Rule, Cmd, Placed, Ending, end, stop, placeO
 use Rattle.walk.proofs.Laws.{afterAll, View, ends, goes, view, walk-nil, walk-command, walk-ends, ends-at, walk-front, Parted, parted, begins, stands}
 use Rattle.walk.proofs.Steps.{Goes, Here, here, past, ends as ends-here, goes as goes-here, ended-no-command, found-past, found-ends, found-goes, found-command, walk-goes}
 
-bare-place : (at : ℕ) (cs : List Cmd) → bare (place at cs) ≡ cs
+pub bare-place : (at : ℕ) (cs : List Cmd) → bare (place at cs) ≡ cs
 bare-place at [] = refl
 bare-place at (c ∷ cs) = ap (λ (l : List Cmd). c ∷ l) (bare-place (at + size c) cs)
 
