@@ -103,7 +103,7 @@ fn panic_at(direction: Direction, stream: &[u8], at: usize) -> Result<(), String
     let rest = &stream[at..];
     match rest.first().and_then(|cid| direction.payload_len(*cid)) {
         Some(len) if len == rest.len() => Ok(()),
-        _ => Err("a panic other than at a sized command with exactly its payload length of bytes left".to_string()),
+        _ => Err("a panic where no sized command lacks just its last byte".to_string()),
     }
 }
 

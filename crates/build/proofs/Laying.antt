@@ -8,7 +8,7 @@ use native.Mathlib.Omega.{arith}
 use lib.ListN.{length, getD, take, drop, length-append, length-drop, take-append-drop}
 use lib.Seq.{take-suc, take-length, take-append-seam, length-take-le, drop-append-add, drop-drop}
 use Rattle.walk.specs.Walk.{Cmd, encode}
-use Rattle.build.specs.Records.{Rec, cmdOf, bytesOf, over, writtenAt}
+use Rattle.build.specs.Records.{Rec, cmdOf, commandBytes, over, writtenAt}
 use Rattle.build.specs.Laying.{LaidAt}
 use Rattle.build.proofs.Writes.{exactly-laid}
 
@@ -63,7 +63,7 @@ module _ (o : List ℕ) (at : ℕ) (w : List ℕ) (h : at + length w ≤ length 
       ∙ omega (arith, to-end o at w (omega arith), length-drop (at + length w) o)
 
 module _ (rs : List Rec) where
-  front-more : (i : ℕ) (d : Rec) → i < length rs → front rs (suc i) ≡ front rs i ++ bytesOf (getD rs i d)
+  front-more : (i : ℕ) (d : Rec) → i < length rs → front rs (suc i) ≡ front rs i ++ commandBytes (getD rs i d)
   front-more i d h =
       ap (λ (l : List Rec). encode (map cmdOf l)) (take-suc rs i d h)
       ∙ ap encode (map-append cmdOf (take i rs) (getD rs i d ∷ []))
@@ -93,12 +93,12 @@ module _ (rs : List Rec) where
     laid-length l = l .long
 
     module _ {i at : ℕ} {o : List ℕ} (d : Rec) (h : i < length rs) (l : Laid out i at o) where
-      ends-next : at + length (bytesOf (getD rs i d)) ≡ length (front rs (suc i))
+      ends-next : at + length (commandBytes (getD rs i d)) ≡ length (front rs (suc i))
       ends-next =
-          omega (arith, l .behind, ap length (front-more i d h), length-append (front rs i) (bytesOf (getD rs i d)))
+          omega (arith, l .behind, ap length (front-more i d h), length-append (front rs i) (commandBytes (getD rs i d)))
 
       -- the next record fits
-      pub laid-room : at + length (bytesOf (getD rs i d)) ≤ length (all rs)
+      pub laid-room : at + length (commandBytes (getD rs i d)) ≤ length (all rs)
       laid-room = let w = front-within (suc i) in let e = ends-next in omega arith
 
       -- and is laid behind the others, with a surplus that ends where all records end, or before
@@ -106,17 +106,17 @@ module _ (rs : List Rec) where
       laid-next next o' n =
           let r : Rec = getD rs i d in
           let x : List ℕ = n .surplus in
-          let w : List ℕ = bytesOf (getD rs i d) ++ n .surplus in
+          let w : List ℕ = commandBytes (getD rs i d) ++ n .surplus in
           let k : length o ≡ length out = l .long in
-          let u : at + length (bytesOf (getD rs i d) ++ n .surplus) ≤ length (all rs) = n .within in
-          let room : at + length (bytesOf (getD rs i d) ++ n .surplus) ≤ length o = omega arith in
+          let u : at + length (commandBytes (getD rs i d) ++ n .surplus) ≤ length (all rs) = n .within in
+          let room : at + length (commandBytes (getD rs i d) ++ n .surplus) ≤ length o = omega arith in
           let far : length (all rs) ≡ at + length w + (length (all rs) - (at + length w)) = omega arith in
           let a : next ≡ length (front rs (suc i)) = n .behind ∙ ends-next in
           let b : take next o' ≡ front rs (suc i) =
           ap (λ (k : ℕ). take k o') (n .behind)
-          ∙ ap (take (at + length (bytesOf r))) (n .memory)
-          ∙ over-take o at (bytesOf r) x (omega arith)
-          ∙ ap (λ (l : List ℕ). l ++ bytesOf r) (l .before)
+          ∙ ap (take (at + length (commandBytes r))) (n .memory)
+          ∙ over-take o at (commandBytes r) x (omega arith)
+          ∙ ap (λ (l : List ℕ). l ++ commandBytes r) (l .before)
           ∙ sym (front-more i d h) in
           let c : drop (length (all rs)) o' ≡ drop (length (all rs)) out =
           ap (drop (length (all rs))) (n .memory)

@@ -3,11 +3,11 @@ use Prim.Native.Nat.{ℕ, _+_, _≤_}
 use mathlib.Core.List.{List, _++_}
 use mathlib.Core.Path.{_≡_}
 use lib.ListN.{length}
-use Rattle.build.specs.Records.{Rec, bytesOf, over}
+use Rattle.build.specs.Records.{Rec, commandBytes, over}
 
 -- a record among others that are written up to an offset `end`: the next goes behind it, so up to `end` there may be a surplus
 pub record LaidAt (out : List ℕ) (at end : ℕ) (r : Rec) (next : ℕ) (o : List ℕ) : Type 0 where
   pub surplus : List ℕ
-  pub behind : next ≡ at + length (bytesOf r)
-  pub memory : o ≡ over out at (bytesOf r ++ surplus)
-  pub within : at + length (bytesOf r ++ surplus) ≤ end
+  pub behind : next ≡ at + length (commandBytes r)
+  pub memory : o ≡ over out at (commandBytes r ++ surplus)
+  pub within : at + length (commandBytes r ++ surplus) ≤ end

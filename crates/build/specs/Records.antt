@@ -97,12 +97,12 @@ packedAt s i r = cond (ltb i (length s / 8)) (over s (8 * i) (r .cid ∷ lenByte
 
 -- ---- a record's bytes, written
 
-abbrev pub bytesOf : Rec → List ℕ
-bytesOf r = r .cid ∷ take (r .len) (r .bytes)
+abbrev pub commandBytes : Rec → List ℕ
+commandBytes r = r .cid ∷ take (r .len) (r .bytes)
 
 -- a record written at an offset, and the offset behind it. Where there is no room, nothing is written, and the offset stays
 unfoldable pub writtenAt : List ℕ → ℕ → Rec → ℕ × List ℕ
 writtenAt out at r =
-    cond (leb (at + length (bytesOf r)) (length out))
-    (at + length (bytesOf r), over out at (bytesOf r))
+    cond (leb (at + length (commandBytes r)) (length out))
+    (at + length (commandBytes r), over out at (commandBytes r))
     (at, out)

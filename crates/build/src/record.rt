@@ -6,7 +6,7 @@ ghost use Prim.Native.Nat.{_+_, _≤_};
 ghost use lib.ListN.{length, take};
 ghost use lib.Seq.{paste};
 ghost use Rattle.table.specs.Table.{lengthOf};
-ghost use Rattle.build.specs.Records.{judged, heldBy, bytesOf, writtenAt, packedAt, lenByte, noRecord};
+ghost use Rattle.build.specs.Records.{judged, heldBy, commandBytes, writtenAt, packedAt, lenByte, noRecord};
 ghost use Rattle.build.specs.Laying.{LaidAt};
 ghost use Rattle.build.specs.Told.{toldJudged};
 
@@ -83,7 +83,7 @@ impl Record {
     // room before `end`, all five payload bytes are written, and the commands that follow cover those that don't count: a copy that
     // ends with the length makes the processor guess the length.
     pub(crate) fn lay(self, out: &mut [u8], at: usize, end: usize) -> usize
-        requires { ⌜ at + length (bytesOf (heldBy self)) ≤ end ⌝ }
+        requires { ⌜ at + length (commandBytes (heldBy self)) ≤ end ⌝ }
         requires { ⌜ end ≤ length (now out) ⌝ }
         ensures { λ r. ⌜ LaidAt (now (out .entry)) at end (heldBy self) r (now (out .exit)) ⌝ }
     {

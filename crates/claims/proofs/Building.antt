@@ -16,7 +16,6 @@ use Rattle.table.specs.Table.{lengthOf}
 use Rattle.table.specs.declared.rules.Rules.{Rules}
 use Rattle.table.proofs.Lengths.{at-most-five}
 use Rattle.walk.specs.Walk.{Rule, Cmd, Walk, end, encode, place, bare, walkOf}
-use Rattle.walk.proofs.Ownership.{bare-place}
 use Rattle.build.specs.Records.{Item, whole, part, cmdsOf, over}
 use Rattle.build.specs.Build.{Built, total, refusedAt, refused, totalOf, fill, buildOf}
 use Rattle.build.specs.ThereAndBack.{Commands, Full}
@@ -133,21 +132,21 @@ module _ (B : Builder) (d : BuildsAsDefined B) where
 
   -- what an accepted build wrote
   accepted-wrote : (rules : Rules) (cs : List Cmd) (xs : List Item) (before after : List ℕ) (n : ℕ) → StandsFor rules cs xs → B rules xs before (total n) after
-      → walkOf (lengthOf rules) (take n after) .cmds ≡ place 0 cs
+      → take n after ≡ encode (cmdsOf xs)
   accepted-wrote rules cs xs before after n st b =
       let t = accepts-exactly rules xs before after (total n) b .0 (n, refl) in
       let w = written rules cs xs before after (total n)
       (subst (λ (n : ℕ). n ≤ 4096) (as-many (lengthOf rules) xs (st .well-formed) ∙ ap length (st .same)) (t .0))
       st (subst (λ (cs : List Cmd). length (encode cs) ≤ length before) (st .same) (t .2)) b in
       let n-is : n ≡ length (encode cs) = let q = w .size in cc in
-      ap (λ (k : ℕ). walkOf (lengthOf rules) (take k after) .cmds) n-is ∙ ap (λ (x : Walk). x .cmds) (w .walk)
+      ap (λ (k : ℕ). take k after) n-is ∙ w .front ∙ ap encode (sym (st .same))
 
 same-bytes : (B C : Builder) → BuildsAsDefined B → BuildsAsDefined C → SameBytesSameList B C
 same-bytes B C d d' rules cs ds xs ys before before' after after' m n st st' b c e =
-    let one = accepted-wrote B d rules cs xs before after m st b in
-    let two = accepted-wrote C d' rules ds ys before' after' n st' c in
-    let placed : place 0 cs ≡ place 0 ds = sym one ∙ ap (λ (s : List ℕ). walkOf (lengthOf rules) s .cmds) e ∙ two in
-    sym (bare-place 0 cs) ∙ ap bare placed ∙ bare-place 0 ds
+    sym (st .same)
+    ∙ ThereAndBack.equal-bytes-equal-lists (lengthOf rules) xs ys (st .well-formed) (st' .well-formed)
+    (sym (accepted-wrote B d rules cs xs before after m st b) ∙ e ∙ accepted-wrote C d' rules ds ys before' after' n st' c)
+    ∙ st' .same
 
 -- the length that is asked beforehand
 agrees : (l : Built) (bytes before : List ℕ) → LengthAgrees l (length before) (fill l bytes before .0)

@@ -19,7 +19,7 @@ use Rattle.creators.specs.Setters.{isMargin, sixBits, marginAt, nanoSecondsAt}
 use Rattle.walk.specs.Step.{Found, ended, command, stopped, Heading}
 use Rattle.walk.specs.Told.{toldStep}
 use Rattle.walk.specs.Walk.{Cmd}
-use Rattle.build.specs.Records.{heldBy, bytesOf, over, lenByte, packedAt, writtenAt}
+use Rattle.build.specs.Records.{heldBy, commandBytes, over, lenByte, packedAt, writtenAt}
 use Rattle.build.specs.declared.record.Record.{Record}
 use Rattle.build.proofs.record.Record.write.Reads as write
 use Rattle.build.proofs.record.Record.pack.Reads as pack
@@ -95,9 +95,9 @@ next-kept _ _ _ n (Handing.asked it r p κs exit q g) e =
 
 write-kept : (r : Record) (out : RefT (List ℕ)) (at : ℕ) (after : List ℕ) → GivesWith (λ s. now (s .1 .0)) write.Post (r, (out, (at, tt))) at after → after ≡ now out
 unfolding writtenAt
-write-kept r out at after g = by (leb (at + length (bytesOf (heldBy r))) (length (now out))) (ap (λ (o : List ℕ). (at, o)) (sym (g .1 .1 .1)) ∙ g .1 .1 .0)
+write-kept r out at after g = by (leb (at + length (commandBytes (heldBy r))) (length (now out))) (ap (λ (o : List ℕ). (at, o)) (sym (g .1 .1 .1)) ∙ g .1 .1 .0)
   where
-    by : (b : Bool) → _≡_ {A = ℕ × List ℕ} (at, after) (cond b (at + length (bytesOf (heldBy r)), over (now out) at (bytesOf (heldBy r))) (at, now out)) → after ≡ now out
+    by : (b : Bool) → _≡_ {A = ℕ × List ℕ} (at, after) (cond b (at + length (commandBytes (heldBy r)), over (now out) at (commandBytes (heldBy r))) (at, now out)) → after ≡ now out
     by true e = absurd (omega (arith, ap (λ p. p .0) e))
     by false e = ap (λ p. p .1) e
 

@@ -1,5 +1,4 @@
--- Reading after setting, and what a setter leaves, once over places and runs. `payloadOf` an image is what the readers read.
--- Assumes nothing.
+-- Reading after setting, and what a setter leaves, once over places and runs. Assumes nothing.
 use Prim.Native.Nat.{ℕ, _+_, _-_, _^_, _<_, _≤_}
 use mathlib.Core.Path.{_≡_, refl, sym, ap, _∙_}
 use mathlib.Core.Bool.{Bool, true, false}
@@ -16,7 +15,11 @@ use Rattle.bits.proofs.Laws.{read-put, put-leaves}
 use Rattle.table.specs.Answers.{accepted, refused}
 use Rattle.fields.specs.Places.{Place, Run, numberAt, yesAt, bytesAt, bit, octet}
 use Rattle.fields.proofs.Masks.{bit-fits}
-use Rattle.creators.specs.Image.{payloadOf, putAt, putBytes, onlyIf, checkedAt}
+use Rattle.creators.specs.Image.{putAt, putBytes, onlyIf, checkedAt}
+
+-- the payload in an image: what the readers read
+abbrev pub payloadOf : List ℕ → List ℕ
+payloadOf image = drop 1 image
 
 -- ---- a place
 

@@ -24,10 +24,10 @@ use Rattle.fields.specs.Places.{
   DeviceTimeAns·fraction,
 }
 use Rattle.payloads.specs.Meanings.{signed, marginOf, highFirst, secondsOf, nanoSecondsOf}
-use Rattle.creators.specs.Image.{payloadOf, putAt, onlyIf}
+use Rattle.creators.specs.Image.{putAt, onlyIf}
 use Rattle.creators.specs.Setters.{dwellAt, isMargin, sixBits, marginAt, lowBytes, secondsAt, nanoSecondsAt}
 use Rattle.creators.proofs.Margin.{six-bits-fit, signed-six}
-use Rattle.creators.proofs.ReadBack.{Outside, length-put, reads, says, leaves, accepted-writes, reads-within, reads-run}
+use Rattle.creators.proofs.ReadBack.{payloadOf, Outside, length-put, reads, says, leaves, accepted-writes, reads-within, reads-run}
 
 -- ---- TXParamSetupReq
 

@@ -3,7 +3,7 @@ use Prim.Native.Nat.{ℕ, _+_, _^_}
 use mathlib.Core.Bool.{Bool, cond}
 use mathlib.Core.List.{List, _∷_}
 use lib.Dec.{ltb}
-use lib.ListN.{getD, set, drop, replicate}
+use lib.ListN.{getD, set, replicate}
 use lib.Seq.{paste}
 use Rattle.bits.specs.Bits.{setField}
 use Rattle.table.specs.Answers.{Consent, refused, accepted}
@@ -25,9 +25,6 @@ abbrev pub imageLength : Command → ℕ
 imageLength c = 1 + c .size
 
 -- ---- what a setter writes
-
-abbrev pub payloadOf : List ℕ → List ℕ
-payloadOf image = drop 1 image
 
 -- the image with v in that place of its payload
 unfoldable pub putAt : Place → List ℕ → ℕ → List ℕ

@@ -9,14 +9,14 @@ ghost use Rattle.bits.specs.Bits.{bitOf};
 ghost use Rattle.table.specs.Refusals.{numberOf};
 ghost use Rattle.table.specs.Told.{toldVerdict};
 ghost use Rattle.fields.specs.Frequency.{bytesOf};
-ghost use Rattle.fields.specs.Places.{place, bit, octet, run};
+ghost use Rattle.fields.specs.Places.{bitsAt, bit, octet, run};
 ghost use Rattle.creators.specs.Image.{putAt, putBytes, checkedAt};
 
 // Four bits of a payload byte, from bit lo on. A number that they can't hold is refused.
 pub(crate) fn nibble(image: &mut [u8], byte: usize, lo: u8, refusal: Refusal, v: u8) -> Verdict
     requires { ⌜ 1 + byte < length (now image) ⌝ }
     requires { ⌜ 4 + lo ≤ 8 ⌝ }
-    ensures { λ r. ⌜ (toldVerdict r, now (image .exit)) ≡ checkedAt (place byte lo 4) (numberOf refusal) (now (image .entry)) v ⌝ }
+    ensures { λ r. ⌜ (toldVerdict r, now (image .exit)) ≡ checkedAt (bitsAt byte lo 4) (numberOf refusal) (now (image .entry)) v ⌝ }
 {
     if 15 < v {
         return Verdict::Refused(refusal);

@@ -18,11 +18,11 @@ allOn width = replicate width 255
 
 -- from a slice: its first bytes, as many as the mask has, in the place of those of m. From a shorter one refusal 4,
 -- BufferTooShort, and m as it was
-abbrev pub firstOf : List ℕ → List ℕ → Consent × List ℕ
-firstOf m s = cond (ltb (length s) (length m)) (refused 4, m) (accepted, take (length m) s)
+abbrev pub filledFrom : List ℕ → List ℕ → Consent × List ℕ
+filledFrom m s = cond (ltb (length s) (length m)) (refused 4, m) (accepted, take (length m) s)
 
 abbrev pub maskOf : ℕ → List ℕ → Consent × List ℕ
-maskOf width s = firstOf (replicate width 0) s
+maskOf width s = filledFrom (replicate width 0) s
 
 -- the bytes, called banks. Refusal 5, InvalidIndex, at or past the width
 abbrev pub bankOf : List ℕ → ℕ → Answer ℕ

@@ -33,14 +33,14 @@ bytesAt r payload = take (r .count) (drop (r .byte) payload)
 
 -- ---- the places
 
-abbrev pub place : ℕ → ℕ → ℕ → Place
-place byte lo width = record { byte = byte; lo = lo; width = width }
+abbrev pub bitsAt : ℕ → ℕ → ℕ → Place
+bitsAt byte lo width = record { byte = byte; lo = lo; width = width }
 
 abbrev pub bit : ℕ → ℕ → Place
-bit byte lo = place byte lo 1
+bit byte lo = bitsAt byte lo 1
 
 abbrev pub octet : ℕ → Place
-octet byte = place byte 0 8
+octet byte = bitsAt byte 0 8
 
 abbrev pub run : ℕ → ℕ → Run
 run byte count = record { byte = byte; count = count }
@@ -52,10 +52,10 @@ abbrev pub LinkCheckAns·gatewayCount : Place
 LinkCheckAns·gatewayCount = octet 1
 
 abbrev pub LinkADRReq·dataRate : Place
-LinkADRReq·dataRate = place 0 4 4
+LinkADRReq·dataRate = bitsAt 0 4 4
 
 abbrev pub LinkADRReq·txPower : Place
-LinkADRReq·txPower = place 0 0 4
+LinkADRReq·txPower = bitsAt 0 0 4
 
 abbrev pub LinkADRReq·channelMask : Run
 LinkADRReq·channelMask = run 1 2
@@ -74,7 +74,7 @@ LinkADRAns·powerAck = bit 0 2
 
 -- the field is the low nibble; the Rust's setter writes the whole byte
 abbrev pub DutyCycleReq·maxDutyCycle : Place
-DutyCycleReq·maxDutyCycle = place 0 0 4
+DutyCycleReq·maxDutyCycle = bitsAt 0 0 4
 
 abbrev pub DutyCycleReq·whole : Place
 DutyCycleReq·whole = octet 0
@@ -99,7 +99,7 @@ DevStatusAns·battery = octet 0
 
 -- the field is the low six bits; the Rust's setter writes the whole byte, the two bits above them 0
 abbrev pub DevStatusAns·margin : Place
-DevStatusAns·margin = place 1 0 6
+DevStatusAns·margin = bitsAt 1 0 6
 
 abbrev pub DevStatusAns·whole : Place
 DevStatusAns·whole = octet 1
@@ -120,7 +120,7 @@ abbrev pub NewChannelAns·dataRateRangeAck : Place
 NewChannelAns·dataRateRangeAck = bit 0 1
 
 abbrev pub RXTimingSetupReq·delay : Place
-RXTimingSetupReq·delay = place 0 0 4
+RXTimingSetupReq·delay = bitsAt 0 0 4
 
 abbrev pub TXParamSetupReq·downlinkDwellTime : Place
 TXParamSetupReq·downlinkDwellTime = bit 0 5
@@ -129,7 +129,7 @@ abbrev pub TXParamSetupReq·uplinkDwellTime : Place
 TXParamSetupReq·uplinkDwellTime = bit 0 4
 
 abbrev pub TXParamSetupReq·maxEirp : Place
-TXParamSetupReq·maxEirp = place 0 0 4
+TXParamSetupReq·maxEirp = bitsAt 0 0 4
 
 -- the lowest bit of maxEirp, which the Rust's dwell setters clear
 abbrev pub TXParamSetupReq·bitZero : Place

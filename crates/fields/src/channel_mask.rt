@@ -6,7 +6,7 @@ ghost use Rattle.table.specs.Told.{toldVerdict};
 ghost use Rattle.fields.specs.Mask.{
   channelOn,
   allOn,
-  firstOf,
+  filledFrom,
   maskOf,
   bankOf,
   setBank,
@@ -30,7 +30,7 @@ pub enum EnabledAnswer {
 
 // The first bytes of data, as many as the mask has.
 fn new_in(data: &[u8], m: &mut [u8]) -> Verdict
-    ensures { λ r. ⌜ (toldVerdict r, now (m .exit)) ≡ firstOf (now (m .entry)) (now («data» .entry)) ⌝ }
+    ensures { λ r. ⌜ (toldVerdict r, now (m .exit)) ≡ filledFrom (now (m .entry)) (now («data» .entry)) ⌝ }
 {
     if data.len() < m.len() {
         return Verdict::Refused(Refusal::BufferTooShort);

@@ -75,9 +75,6 @@ numbered-number FOptsTooLong = refl
 numbered-number PayloadWithoutPort = refl
 numbered-number ListTooLong = refl
 
-pub number-tells : {r s : Refusal} → numberOf r ≡ numberOf s → r ≡ s
-number-tells p = by-inverse numberOf numbered numbered-number p
-
 lengthTold : Option ℕ → Length
 lengthTold none = Unknown
 lengthTold (some n) = Known n

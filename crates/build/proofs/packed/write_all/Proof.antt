@@ -5,7 +5,7 @@ use mathlib.Core.List.{map}
 use native.Mathlib.Omega.{arith}
 use lib.ListN.{length, getD}
 use Rattle.walk.specs.Walk.{encode}
-use Rattle.build.specs.Records.{Rec, cmdOf, bytesOf, heldBy, slotAt, wholeSlots}
+use Rattle.build.specs.Records.{Rec, cmdOf, commandBytes, heldBy, slotAt, wholeSlots}
 use Rattle.build.specs.Laying.{LaidAt}
 use Rattle.build.proofs.Laying.{Laid, laid-none, laid-length, laid-room, laid-next, laid-all}
 use Rattle.build.proofs.Slots.{slots-length, slot-in}
@@ -39,10 +39,10 @@ lay-requires c κs =
     let h : l .i < length s / 8 = omega arith in
     let n = slots-length s in
     let same : slotAt s (l .i) ≡ heldBy (c .before .slot .result) = sym (c .before .slot .ensures) in
-    let room : l .at + length (bytesOf (getD (wholeSlots s) (l .i) (slotAt s (l .i)))) ≤ length (encode (map cmdOf (wholeSlots s))) =
+    let room : l .at + length (commandBytes (getD (wholeSlots s) (l .i) (slotAt s (l .i)))) ≤ length (encode (map cmdOf (wholeSlots s))) =
     laid-room (wholeSlots s) (start .args .out .now) (fits start) (slotAt s (l .i)) (omega arith) (l .inv .1) in
-    let here : l .at + length (bytesOf (heldBy (c .before .slot .result))) ≤ length (encode (map cmdOf (wholeSlots s))) =
-    subst (λ (r : Rec). l .at + length (bytesOf r) ≤ length (encode (map cmdOf (wholeSlots s)))) (slot-in s (l .i) h ∙ same) room in
+    let here : l .at + length (commandBytes (heldBy (c .before .slot .result))) ≤ length (encode (map cmdOf (wholeSlots s))) =
+    subst (λ (r : Rec). l .at + length (commandBytes r) ≤ length (encode (map cmdOf (wholeSlots s)))) (slot-in s (l .i) h ∙ same) room in
     (omega (arith, start .pre .0), omega (arith, start .pre .1, laid-length (wholeSlots s) (start .args .out .now) (fits start) (l .inv .1)))
 
 add-i : tie.Need-add-i Inv-loop μ-loop

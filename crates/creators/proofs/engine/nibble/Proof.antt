@@ -1,14 +1,14 @@
 -- `nibble` meets its contract. Assumes nothing.
 use native.Mathlib.Omega.{arith}
 use Rattle.table.specs.Refusals.{numberOf}
-use Rattle.fields.specs.Places.{place}
+use Rattle.fields.specs.Places.{bitsAt}
 use Rattle.creators.proofs.Written.{put-held, checked-held, checked-refused}
 use borrow.Author.Needs.{needs}
 use Rattle.creators.proofs.engine.nibble.Statement.{statement}
 use Rattle.creators.proofs.engine.nibble.Tie as tie
 
 returns : tie.Need-returns
-returns c = let a = c .before .before .args in checked-refused (place (a .byte) (a .lo) 4) (numberOf (a .refusal)) (a .image .now) (a .v) (omega arith)
+returns c = let a = c .before .before .args in checked-refused (bitsAt (a .byte) (a .lo) 4) (numberOf (a .refusal)) (a .image .now) (a .v) (omega arith)
 
 add-at : tie.Need-add-at
 add-at c = search needs
@@ -28,7 +28,7 @@ same-length c = search needs
 returns-2 : tie.Need-returns-2
 returns-2 c =
     let a = c .before .before .before .before .args in
-    let p = place (a .byte) (a .lo) 4 in
+    let p = bitsAt (a .byte) (a .lo) 4 in
     rw (c .put .ensures, put-held p (a .image .now) (a .v) (omega arith) (omega arith)) (checked-held p (numberOf (a .refusal)) (a .image .now) (a .v) (omega arith))
 
 pub nibble-spec : {M : Type 1} → statement M
