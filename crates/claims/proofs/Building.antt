@@ -5,7 +5,6 @@ use mathlib.Core.List.{List, [], _∷_}
 use mathlib.Core.Path.{_≡_, refl, sym, ap, _∙_, subst}
 use native.Mathlib.Decide.{decLe}
 use native.Mathlib.Omega.{arith}
-use base.Logic.{id⊢}
 use lib.Dec.{leb}
 use lib.ListN.{length, take, drop}
 use lib.Seq.{take-append-seam}
@@ -15,7 +14,7 @@ use Rattle.bits.specs.Every.{Every}
 use Rattle.table.specs.Table.{lengthOf}
 use Rattle.table.specs.declared.rules.Rules.{Rules}
 use Rattle.table.proofs.Lengths.{at-most-five}
-use Rattle.walk.specs.Walk.{Rule, Cmd, Walk, end, encode, place, bare, walkOf}
+use Rattle.walk.specs.Walk.{Rule, Cmd, Walk, end, encode, place, walkOf}
 use Rattle.build.specs.Records.{Item, whole, part, cmdsOf, over}
 use Rattle.build.specs.Build.{Built, total, refusedAt, refused, totalOf, fill, buildOf}
 use Rattle.build.specs.ThereAndBack.{Commands, Full}
@@ -26,7 +25,7 @@ use Rattle.lent.specs.Records.{itemsOf}
 use Rattle.claims.specs.Building.{Five, Builder, FromSlots, FromStructs, FromFour, LenOfSlots, LenOfStructs, asked-length, IsRefusal, StandsFor, RefusedKeeps, BuiltReadsBack, AcceptsExactly, SameBytesSameList, LengthAgrees, same, no-room, LengthForBuild, BuildsAsDefined, RightBuild, Builds}
 use Rattle.claims.specs.Building as Building
 use Rattle.claims.specs.Handing.{ReadAs}
-use Rattle.claims.proofs.ByHand.{built-set, build-set}
+use Rattle.claims.proofs.ByHand.{by-hand}
 use Rattle.claims.proofs.Handing.{reads}
 use Rattle.claims.proofs.Lists.{every-list-built}
 
@@ -48,13 +47,13 @@ slots-defined rules _ _ _ _ (Building.built slots out r after g) = record {
 
 pub structs-defined : BuildsAsDefined FromStructs
 structs-defined rules _ _ _ _ (Building.built records out r κs exit f q) = record {
-  says = q _ (build-set _ _) (λ M 𝓤 H A mem run g. id⊢ 𝓤 _);
+  says = by-hand .build-records κs rules records out r exit .0 q;
   full = full-five rules (now records) f;
 }
 
 four-defined : BuildsAsDefined FromFour
 four-defined rules _ _ _ _ (Building.built records out r κs exit f q) = record {
-  says = q _ (build-set _ _) (λ M 𝓤 H A mem run g. id⊢ 𝓤 _);
+  says = by-hand .build-four κs rules records out r exit .0 q;
   full = full-five rules records f;
 }
 
@@ -171,7 +170,7 @@ len-slots : (rules : Rules) (xs : List Item) (l : Built) → LenOfSlots rules xs
 len-slots rules _ _ (asked-length slots r g) = g .1 .1
 
 len-structs : (rules : Rules) (xs : List Item) (l : Built) → LenOfStructs rules xs l → l ≡ totalOf (lengthOf rules) xs
-len-structs rules _ _ (asked-length records r κs exit q) = q _ (built-set _ _) (λ M 𝓤 H A mem run g. id⊢ 𝓤 _)
+len-structs rules _ _ (asked-length records r κs exit q) = by-hand .records-len κs rules records r exit .0 q
 
 pub keeps-slots : RefusedKeeps FromSlots
 keeps-slots = refused-keeps FromSlots slots-defined

@@ -4,12 +4,13 @@ use Rattle.claims.proofs.Building.{builds}
 use Rattle.claims.proofs.ByHand.{by-hand}
 use Rattle.claims.proofs.Choosing.{chooser}
 use Rattle.claims.proofs.Examples.{examples-hold}
-use Rattle.claims.proofs.Keeping.{refusals-keep}
+use Rattle.claims.proofs.Keeping.{refusals-keep, masks-tell}
 use Rattle.claims.proofs.Owning.{one-owner, next-is-step}
 
 pub demands : Demands
 demands = record {
   refusals-keep = refusals-keep;
+  masks-tell = record { so = masks-tell };
   examples = examples-hold;
   one-owner = one-owner;
   next-is-step = next-is-step;

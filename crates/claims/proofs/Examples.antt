@@ -56,6 +56,7 @@ use Rattle.claims.specs.Examples.{
 use Rattle.claims.specs.Handing.{ReadAs}
 use Rattle.claims.proofs.Building.{slots-defined, structs-defined}
 use Rattle.claims.proofs.Handing as Handing
+use Rattle.claims.proofs.Keeping.{both}
 
 abbrev rule : Answering → List ℕ → Bool
 rule LinkADRAns = LinkADRAns·accepts
@@ -82,10 +83,6 @@ Means (builds slots records before answer after) =
 Means (channel m c on) = enabledOf m c ≡ on
 Means (channel-set m c on v after) = setChannel m c on ≡ (v, after)
 Means (range b r) = rangeOf b ≡ r
-
--- two equations from one of pairs
-both : {A B : Type 0} {a c : A} {b d : B} → _≡_ {A = A × B} (a, b) (c, d) → (a ≡ c) × (b ≡ d)
-both e = (ap (λ p. p .0) e, ap (λ p. p .1) e)
 
 -- three bytes that are a frequency
 in-hertz : (bytes : List ℕ) (hz : ℕ) → hertz bytes ≡ hz → (a : FrequencyAnswer) → toldFrequency a ≡ given bytes → InHertz hz a

@@ -7,10 +7,8 @@ use native.Mathlib.Omega.{arith}
 use lib.ListN.{length, drop, length-append}
 use lib.Seq.{length-take-le}
 use borrow.Author.Tests.{le-leb}
-use base.Logic.{id⊢}
 use denote.Ref.{RefT, now}
 use contract.Lifetimes.{Lfts}
-use denote.Signature.{namedLft}
 use Rattle.table.specs.Answers.{Answer, given, refused}
 use Rattle.table.specs.Table.{lengthOf}
 use Rattle.table.specs.declared.rules.Rules.{Rules}
@@ -29,7 +27,7 @@ use Rattle.lent.proofs.iterator.MacCommandIterator.next as next
 use Rattle.claims.specs.Handing.{Front, withPayload, onward, byOffsets, StepAsked, UplinkAsked, DownlinkAsked, Made, by-new, parsed-up, parsed-down, NextAsked, NoCommand, Calls, begun, handed, none-handed, HandsOut, ReadAs, steps, uplinkSteps, downlinkSteps, iterator}
 use Rattle.claims.specs.Handing as Handing
 use Rattle.claims.specs.Outcomes.{Admits}
-use Rattle.claims.proofs.ByHand.{iterator-set, next-set}
+use Rattle.claims.proofs.ByHand.{by-hand}
 
 -- ---- lists of commands
 
@@ -211,7 +209,7 @@ downlink-faithful stream = by-offsets (lengthOf sentDown) (now stream) (Downlink
 pub next-says : (it : RefT MacCommandIterator) (r : Step) (κs : Lfts 2) (exit : RefT MacCommandIterator × Unit)
     → Admits next.ended (λ M 𝓤. next.clauses 𝓤) κs (it, tt) r exit
     → _≡_ {A = Answer (Found Heading) × MacCommandIterator} (toldStep r, now (exit .0)) (nexted (now it))
-next-says it r κs exit q = q _ (next-set (namedLft 2 1 tt κs) (toldStep r, now (exit .0)) (nexted (now it))) (λ M 𝓤 H A mem run g. id⊢ 𝓤 _)
+next-says it r κs exit q = by-hand .next κs it r exit .0 q
 
 -- an iterator moves as one does who reads by offsets
 moved : (a : Answer (Found Cmd)) (at : ℕ) → movedTo (inNumbers a) at ≡ onward a at
@@ -236,9 +234,9 @@ module _ (rules : Rules) (stream : RefT (List ℕ)) where
       ∙ ap (λ (s : RefT (List ℕ)). foundAt (lengthOf rules) (now s) (it .index)) (k .same-stream)
 
 made-faithful : (stream : RefT (List ℕ)) (rules : Rules) (it : MacCommandIterator) → Made stream rules it → Keeps rules stream it × (it .index ≡ 0)
-made-faithful stream rules it (by-new κs exit p) = fresh-faithful rules stream it (p (it ≡ fresh stream rules) (iterator-set (namedLft 1 0 tt κs) it (fresh stream rules)) (λ M 𝓤 H A mem run g. id⊢ 𝓤 _))
-made-faithful stream _ it (parsed-up κs exit p) = fresh-faithful sentUp stream it (p (it ≡ fresh stream sentUp) (iterator-set (namedLft 1 0 tt κs) it (fresh stream sentUp)) (λ M 𝓤 H A mem run g. id⊢ 𝓤 _))
-made-faithful stream _ it (parsed-down κs exit p) = fresh-faithful sentDown stream it (p (it ≡ fresh stream sentDown) (iterator-set (namedLft 1 0 tt κs) it (fresh stream sentDown)) (λ M 𝓤 H A mem run g. id⊢ 𝓤 _))
+made-faithful stream rules it (by-new κs exit p) = fresh-faithful rules stream it (by-hand .new κs stream rules it exit .0 p)
+made-faithful stream _ it (parsed-up κs exit p) = fresh-faithful sentUp stream it (by-hand .parse-up κs stream it exit .0 p)
+made-faithful stream _ it (parsed-down κs exit p) = fresh-faithful sentDown stream it (by-hand .parse-down κs stream it exit .0 p)
 
 module _ (rules : Rules) (stream : RefT (List ℕ)) where
   next-faithful : (it it' : MacCommandIterator) (a : Answer (Found Cmd)) → Keeps rules stream it → NextAsked it a it'

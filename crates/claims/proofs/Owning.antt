@@ -183,6 +183,7 @@ one-owner rules stream = record {
   payload = payload-shown rules stream;
   defined = reads rules stream;
   step-defined = λ at r g. g .1 .1;
+  walk-defined = λ from w g. g .1 .1;
   up-defined = λ e at r g. g .1 .1 ∙ ap (λ (x : Rules). foundAt (lengthOf x) (now stream) at) (sym e);
   down-defined = λ e at r g. g .1 .1 ∙ ap (λ (x : Rules). foundAt (lengthOf x) (now stream) at) (sym e);
 }

@@ -81,8 +81,8 @@ pub record BackAgain (rules : Rules) (cs : List Cmd) (before : List ℕ) (a : Bu
   pub later : drop (length (encode cs)) after ≡ drop (length (encode cs)) before
   pub reads : (stream : RefT (List ℕ)) → now stream ≡ take (length (encode cs)) after → ReadAs rules stream (place 0 cs) (end (length (encode cs)))
 
--- R1, R3, R4, R16, with their places and their order (F5), and the memory then: those of crates/build/specs/Build.antt. A record's payload has the bytes
--- that its length says
+-- R1, R3, R4, R16, with their places and their order (F5), and the memory then: those of crates/build/specs/Build.antt. A record that is taken has the
+-- payload bytes that its length says
 pub record AsDefined (rules : Rules) (xs : List Item) (before : List ℕ) (a : Built) (after : List ℕ) : Type 0 where
   pub says : _≡_ {A = Built × List ℕ} (a, after) (buildOf (lengthOf rules) xs before)
   pub full : Full (lengthOf rules) xs

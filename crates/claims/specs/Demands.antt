@@ -8,12 +8,14 @@ use Rattle.claims.specs.Building.{Builds}
 use Rattle.claims.specs.ByHand.{ByHand}
 use Rattle.claims.specs.Choosing.{Chooser}
 use Rattle.claims.specs.Examples.{ExamplesHold, Lifted}
-use Rattle.claims.specs.Keeping.{RefusalsKeep}
+use Rattle.claims.specs.Keeping.{RefusalsKeep, MasksTell}
 use Rattle.claims.specs.Owning.{OneOwner, NextIsStep}
 
 pub record Demands : Type 2 where
   -- D1: a refusal leaves things as they were. (That every entry takes every input, and ends, is what a proved function with no `requires` is.)
   pub refusals-keep : RefusalsKeep
+  -- what a mask tells
+  pub masks-tell : Lifted MasksTell
   -- D2: the examples hold. (That the answers equal the Rust's is shown by runs, docs/ORACLE.md.)
   pub examples : ExamplesHold
   -- D3a to D3c: each byte of each stream has one owner

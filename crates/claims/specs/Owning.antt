@@ -11,7 +11,7 @@ use Rattle.table.specs.declared.rules.Rules.{Rules}
 use Rattle.payloads.specs.Commands.{sentUp, sentDown}
 use Rattle.walk.specs.Ownership.{Ends}
 use Rattle.walk.specs.Part.{shown, partOf, emptyFront}
-use Rattle.walk.specs.Step.{Found, command, Heading, firstOf, foundAt, stepAt}
+use Rattle.walk.specs.Step.{Found, command, Heading, firstOf, foundAt, stepAt, tallyFrom}
 use Rattle.walk.specs.Told.{toldStep, toldUplinkStep, toldDownlinkStep, toldWalk}
 use Rattle.walk.specs.Walk.{Rule, Cmd, Ending, placeOf, WellFormed, encode, size, walkOf}
 use Rattle.walk.specs.declared.command.UplinkStep.{UplinkStep}
@@ -23,6 +23,7 @@ use Rattle.walk.proofs.step.payload_at.Reads as payload-at
 use Rattle.walk.proofs.command.uplink_at.Reads as uplink-at
 use Rattle.walk.proofs.command.downlink_at.Reads as downlink-at
 use Rattle.walk.proofs.whole.walk.Reads as walk
+use Rattle.walk.proofs.whole.walk_from.Reads as walk-from
 use Rattle.lent.specs.declared.iterator.MacCommandIterator.{MacCommandIterator}
 use Rattle.lent.proofs.iterator.MacCommandIterator.next as next
 use Rattle.claims.specs.Handing.{Front, NoCommand, Calls, ReadAs, steps, uplinkSteps, downlinkSteps, iterator, withPayload}
@@ -102,6 +103,7 @@ module _ (rules : Rules) (stream : RefT (List ℕ)) where
     pub defined : ReadAs rules stream (walkOf L s .cmds) (walkOf L s .ending)
     -- at every offset, on the walk's way or not, a step finds what the walk from there would begin with; past the stream it is refused with 5 (R5)
     pub step-defined : (at : ℕ) (r : Step) → Gives step-at.Post (rules, (stream, (at, tt))) r → toldStep r ≡ stepAt L s at
+    pub walk-defined : (from : ℕ) (w : WalkEnd) → Gives walk-from.Post (rules, (stream, (from, tt))) w → toldWalk w ≡ tallyFrom L s from
     pub up-defined : rules ≡ sentUp → (at : ℕ) (r : UplinkStep) → Gives uplink-at.Post (stream, (at, tt)) r → toldUplinkStep r ≡ foundAt L s at
     pub down-defined : rules ≡ sentDown → (at : ℕ) (r : DownlinkStep) → Gives downlink-at.Post (stream, (at, tt)) r → toldDownlinkStep r ≡ foundAt L s at
 
