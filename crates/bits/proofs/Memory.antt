@@ -2,6 +2,7 @@
 use Prim.Native.Nat.{ℕ, suc, _+_, _<_, _≤_}
 use mathlib.Core.Path.{_≡_, refl, sym, ap, ap₂, _∙_}
 use mathlib.Core.List.{List, [], _∷_, _++_, append-assoc}
+use native.Mathlib.Decide.{decLe}
 use native.Mathlib.Nat.{add-zero, zero-add}
 use native.Mathlib.Numerals.{add-one}
 use native.Mathlib.Omega.{arith}
@@ -88,6 +89,14 @@ no-room out at bytes h = simp (lt-leb (at + length bytes) (length out) h)
 pub room : (out : List ℕ) (at : ℕ) (bytes : List ℕ) → at + length bytes ≤ length out → (at + length bytes, over out at bytes) ≡ writtenAt out at bytes
 unfolding writtenAt
 room out at bytes h = simp (le-leb (at + length bytes) (length out) h)
+
+-- no bytes: whether or not there is such an offset, nothing changes
+pub written-nothing : (out : List ℕ) (at : ℕ) → (at, out) ≡ writtenAt out at []
+written-nothing out at = by (decLe (at + 0) (length out))
+  where
+    by : Dec (at + 0 ≤ length out) → (at, out) ≡ writtenAt out at []
+    by (yes h) = ap₂ (λ (n : ℕ) (x : List ℕ). (n, x)) (sym (add-zero at)) (sym (over-none out at)) ∙ room out at [] h
+    by (no h) = no-room out at [] (omega arith)
 
 -- bytes that had room are written, and `next` is behind them: what a run of writers keeps
 pub record Puts (out : List ℕ) (at : ℕ) (bytes : List ℕ) (next : ℕ) (o : List ℕ) : Type 0 where

@@ -1,4 +1,5 @@
 pub mod Determined
 pub mod Lengths
 pub mod Packed
+pub mod Rows
 pub mod Told

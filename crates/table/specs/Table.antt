@@ -37,7 +37,7 @@ rows =
 -- ---- by CID
 
 -- the one of two that belongs to the direction
-abbrev pub sideOf : Direction → ℕ → ℕ → ℕ
+abbrev pub sideOf : {A : Type 0} → Direction → A → A → A
 sideOf Down down up = down
 sideOf Up down up = up
 
@@ -48,6 +48,14 @@ lengthIn (r ∷ rs) d c = cond (eqb c (r .cid)) (some (sideOf d (r .bytesDown) (
 -- the rule of a stream: how many payload bytes follow a CID, and none for a byte that the direction has no command for
 abbrev pub lengthOf : Rules → ℕ → Option ℕ
 lengthOf rules c = lengthIn rows (rules .direction) c
+
+abbrev pub nameIn : List Row → Direction → ℕ → String
+nameIn [] d c = ""
+nameIn (r ∷ rs) d c = cond (eqb c (r .cid)) (sideOf d (r .down) (r .up)) (nameIn rs d c)
+
+-- the name of a CID's command, and no letters for a byte that the direction has no command for
+abbrev pub nameOf : Rules → ℕ → String
+nameOf rules c = nameIn rows (rules .direction) c
 
 -- ---- by name
 

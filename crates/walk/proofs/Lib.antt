@@ -5,6 +5,5 @@ pub mod Laws
 pub mod Onward
 pub mod Ownership
 pub mod Parts
-pub mod Rows
 pub mod Steps
 pub mod Told

@@ -6,7 +6,7 @@ use Rattle.table.specs.Answers.{Consent}
 use Rattle.table.specs.declared.rules.Direction.the-variants.{Down}
 use Rattle.table.specs.Table.{rows, lengthOf}
 use Rattle.payloads.specs.Commands.{sentDown}
-use Rattle.walk.proofs.Rows.{missing}
+use Rattle.table.proofs.Rows.{missing}
 use Rattle.walk.specs.Room.{roomFor}
 use borrow.Author.Needs.{needs}
 use Rattle.walk.proofs.command.downlink_fits.Statement.{statement}

@@ -11,7 +11,7 @@ use Rattle.table.specs.declared.rules.Direction.the-variants.{Up}
 use Rattle.table.specs.Table.{rows, lengthIn, lengthOf}
 use Rattle.fields.specs.Lists.{tabulate}
 use Rattle.payloads.specs.Commands.{sentUp}
-use Rattle.walk.proofs.Rows.{missing}
+use Rattle.table.proofs.Rows.{missing}
 use Rattle.walk.specs.Step.{command, foundAt}
 use Rattle.walk.specs.Walk.{size}
 use Rattle.walk.proofs.Commands.{bytes-from, cid-within, known-is, room, arm, without, row-left}

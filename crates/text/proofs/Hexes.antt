@@ -1,0 +1,113 @@
+-- Hex spellings: the bytes back, and their form. Assumes nothing.
+use Prim.Native.Nat.{ℕ, _+_, _-_, _*_, _/_, _%_, _<_, _≤_}
+use mathlib.Core.Bool.{Bool, true, false, cond}
+use mathlib.Core.List.{List, [], _∷_, _++_}
+use mathlib.Core.Logic.{_⊎_, inl, inr}
+use mathlib.Core.Path.{_≡_, refl, sym, ap, ap₂, _∙_}
+use native.Mathlib.Omega.{arith}
+use lib.Dec.{ltb}
+use lib.ListN.{length}
+use borrow.Author.Tests.{ltb-true, ltb-false, lt-ltb, le-ltb}
+use Rattle.bits.specs.Every.{Every}
+use Rattle.text.specs.Hex.{hexDigit, hexByte, hexOf, IsByte, HexDigit, Pairs, digitValue, bytesOf}
+use Rattle.text.specs.Lines.{Plain}
+
+-- ---- one digit
+
+digit-back : (d : ℕ) → d < 16 → digitValue (hexDigit d) ≡ d
+digit-back d h = by (ltb d 10) refl
+  where
+    by : (b : Bool) → ltb d 10 ≡ b → digitValue (cond b (48 + d) (55 + d)) ≡ d
+    by true e = let l = ltb-true d 10 e in rw (lt-ltb (48 + d) 65 (omega arith)) (omega arith)
+    by false e = let l = ltb-false d 10 e in rw (le-ltb (55 + d) 65 (omega arith)) (omega arith)
+
+digit-form : (d : ℕ) → d < 16 → HexDigit (hexDigit d)
+digit-form d h = by (ltb d 10) refl
+  where
+    by : (b : Bool) → ltb d 10 ≡ b → HexDigit (cond b (48 + d) (55 + d))
+    by true e = let l = ltb-true d 10 e in inl (omega arith, omega arith)
+    by false e = let l = ltb-false d 10 e in inr (omega arith, omega arith)
+
+record Means (c : ℕ) : Type 0 where
+  small : digitValue c < 16
+  there : hexDigit (digitValue c) ≡ c
+
+means : (c : ℕ) → HexDigit c → Means c
+means c (inl h) =
+    let l = h .0 in
+    let u = h .1 in
+    let v : digitValue c ≡ c - 48 = rw (lt-ltb c 65 (omega arith)) in
+    record { small = omega arith; there = ap hexDigit v ∙ rw (lt-ltb (c - 48) 10 (omega arith)) (omega arith) }
+means c (inr h) =
+    let l = h .0 in
+    let u = h .1 in
+    let v : digitValue c ≡ c - 55 = rw (le-ltb c 65 (omega arith)) in
+    record { small = omega arith; there = ap hexDigit v ∙ rw (le-ltb (c - 55) 10 (omega arith)) (omega arith) }
+
+-- ---- bytes
+
+pub hex-pairs : (s : List ℕ) → Every IsByte s → Pairs (hexOf s)
+unfolding hexOf
+hex-pairs [] h = tt
+hex-pairs (b ∷ s) h = let l = h .0 in (digit-form (b / 16) (omega arith), digit-form (b % 16) (omega arith), hex-pairs s (h .1))
+
+pub hex-back : (s : List ℕ) → Every IsByte s → bytesOf (hexOf s) ≡ s
+unfolding hexOf bytesOf
+hex-back [] h = refl
+hex-back (b ∷ s) h =
+    let l = h .0 in
+    let e : digitValue (hexDigit (b / 16)) * 16 + digitValue (hexDigit (b % 16)) ≡ b =
+    omega (arith, digit-back (b / 16) (omega arith), digit-back (b % 16) (omega arith)) in
+    ap₂ (λ (x : ℕ) (l : List ℕ). x ∷ l) e (hex-back s (h .1))
+
+pub pairs-spelled : (s : List ℕ) → Pairs s → hexOf (bytesOf s) ≡ s
+unfolding hexOf bytesOf
+pairs-spelled [] h = refl
+pairs-spelled (c ∷ []) h = absurd h
+pairs-spelled (c ∷ d ∷ s) h =
+    let x = means c (h .0) in
+    let y = means d (h .1) in
+    let p = x .small in
+    let q = y .small in
+    let high : (digitValue c * 16 + digitValue d) / 16 ≡ digitValue c = omega arith in
+    let low : (digitValue c * 16 + digitValue d) % 16 ≡ digitValue d = omega arith in
+    ap₂ (λ (a : ℕ) (l : List ℕ). a ∷ l) (ap hexDigit high ∙ x .there)
+    (ap₂ (λ (a : ℕ) (l : List ℕ). a ∷ l) (ap hexDigit low ∙ y .there) (pairs-spelled s (h .2)))
+
+pub hex-injective : (s t : List ℕ) → Every IsByte s → Every IsByte t → hexOf s ≡ hexOf t → s ≡ t
+hex-injective s t p q e = sym (hex-back s p) ∙ ap bytesOf e ∙ hex-back t q
+
+pub hex-none : hexOf [] ≡ []
+unfolding hexOf
+hex-none = refl
+
+hex-append : (s t : List ℕ) → hexOf (s ++ t) ≡ hexOf s ++ hexOf t
+unfolding hexOf
+hex-append [] t = refl
+hex-append (b ∷ s) t = ap (λ (l : List ℕ). hexByte b ++ l) (hex-append s t)
+
+pub hex-behind : (s : List ℕ) (b : ℕ) → hexOf (s ++ (b ∷ [])) ≡ hexOf s ++ hexByte b
+unfolding hexOf
+hex-behind s b = hex-append s (b ∷ [])
+
+pub hex-long : (s : List ℕ) → length (hexOf s) ≡ 2 * length s
+unfolding hexOf
+hex-long [] = refl
+hex-long (b ∷ s) = let e = hex-long s in omega arith
+
+-- ---- in a line
+
+digit-large : (d : ℕ) → 48 ≤ hexDigit d
+digit-large d = by (ltb d 10)
+  where
+    by : (b : Bool) → 48 ≤ cond b (48 + d) (55 + d)
+    by true = omega arith
+    by false = omega arith
+
+pub hex-plain : (s : List ℕ) → Plain (hexOf s)
+unfolding hexOf
+hex-plain [] = tt
+hex-plain (b ∷ s) =
+    let p = digit-large (b / 16) in
+    let q = digit-large (b % 16) in
+    (λ e. omega arith, λ e. omega arith, (λ e. omega arith, λ e. omega arith, hex-plain s))
