@@ -163,4 +163,5 @@ masks-tell = record {
   bank-9 = λ m i r g. g .1 .1;
   statuses-2 = λ m r g. g .1 .1;
   statuses-9 = λ m r g. g .1 .1;
+  on-2 = λ m r g. g .1 .1;
 }

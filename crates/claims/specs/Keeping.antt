@@ -10,7 +10,7 @@ use denote.Ref.{RefT, now}
 use Rattle.table.specs.Answers.{Answer, Consent, refused, accepted}
 use Rattle.table.specs.Told.{toldVerdict}
 use Rattle.table.specs.declared.refusal.Verdict.{Verdict}
-use Rattle.fields.specs.Mask.{allOn, maskOf, bankOf, enabledOf, switched, statusesOf}
+use Rattle.fields.specs.Mask.{allOn, maskOf, bankOf, enabledOf, switched, statusesOf, channelsOn}
 use Rattle.fields.specs.Places.{LinkADRReq·dataRate, LinkADRReq·txPower, RXTimingSetupReq·delay, TXParamSetupReq·maxEirp, DevStatusAns·whole, DeviceTimeAns·fraction}
 use Rattle.fields.specs.Told.{toldBank, toldEnabled}
 use Rattle.fields.specs.declared.channel_mask.BankAnswer.{BankAnswer}
@@ -41,6 +41,7 @@ use Rattle.fields.proofs.channel_mask.ChannelMask2.new.Reads as new-2
 use Rattle.fields.proofs.channel_mask.ChannelMask2.is_enabled.Reads as is-enabled-2
 use Rattle.fields.proofs.channel_mask.ChannelMask2.get_index.Reads as get-index-2
 use Rattle.fields.proofs.channel_mask.ChannelMask2.statuses.Reads as statuses-2
+use Rattle.fields.proofs.channel_mask.ChannelMask2.channels_on.Reads as channels-on-2
 use Rattle.fields.proofs.channel_mask.ChannelMask9.default.Reads as default-9
 use Rattle.fields.proofs.channel_mask.ChannelMask9.new.Reads as new-9
 use Rattle.fields.proofs.channel_mask.ChannelMask9.is_enabled.Reads as is-enabled-9
@@ -98,7 +99,7 @@ pub record RefusalsKeep : Type 2 where
   pub max-eirp : (c : TXParamSetupReqCreator) (v : ℕ) (r : TXParamSetupReqCreatorAnswer) → Gives set-max-eirp.Post (c, (v, tt)) r → Checked (15 < v) 11 (r .verdict) c (record { «data» = putAt TXParamSetupReq·maxEirp (c .«data») v }) (r .creator)
   pub nano-seconds : (c : DeviceTimeAnsCreator) (n : ℕ) (r : DeviceTimeAnsCreatorAnswer) → Gives set-nano-seconds.Post (c, (n, tt)) r → Checked (1_000_000_000 < n) 12 (r .verdict) c (record { «data» = putAt DeviceTimeAns·fraction (c .«data») (n / 3_906_250 % 256) }) (r .creator)
 
--- what a mask tells (RULES: S7 to S11, R4, R5), at both widths
+-- what a mask tells (RULES: S7 to S11, R4, R5), at both widths, and how many channels one of 16 switches on (RULES: S12)
 pub record MasksTell : Type 0 where
   pub default-2 : (m : ChannelMask2) → Gives default-2.Post tt m → m .0 ≡ allOn 2
   pub default-9 : (m : ChannelMask9) → Gives default-9.Post tt m → m .0 ≡ allOn 9
@@ -110,3 +111,4 @@ pub record MasksTell : Type 0 where
   pub bank-9 : (m : ChannelMask9) (i : ℕ) (r : BankAnswer) → Gives get-index-9.Post (m, (i, tt)) r → toldBank r ≡ bankOf (m .0) i
   pub statuses-2 : (m : ChannelMask2) (r : List Bool) → Gives statuses-2.Post (m, tt) r → r ≡ statusesOf 16 (m .0)
   pub statuses-9 : (m : ChannelMask9) (r : List Bool) → Gives statuses-9.Post (m, tt) r → r ≡ statusesOf 72 (m .0)
+  pub on-2 : (m : ChannelMask2) (r : ℕ) → Gives channels-on-2.Post (m, tt) r → r ≡ channelsOn (m .0)

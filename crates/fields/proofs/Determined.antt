@@ -38,6 +38,7 @@ use Rattle.fields.proofs.channel_mask.ChannelMask2.get_index.Reads as m
 use Rattle.fields.proofs.channel_mask.ChannelMask2.set_channel.Reads as mask2-set-channel
 use Rattle.fields.proofs.channel_mask.ChannelMask2.is_enabled.Reads as mask2-is-enabled
 use Rattle.fields.proofs.channel_mask.ChannelMask2.statuses.Reads as mask2-statuses
+use Rattle.fields.proofs.channel_mask.ChannelMask2.channels_on.Reads as mask2-channels-on
 use Rattle.fields.proofs.channel_mask.ChannelMask9.default.Reads as mask9-default
 use Rattle.fields.proofs.channel_mask.ChannelMask9.new.Reads as mask9-new
 use Rattle.fields.proofs.channel_mask.ChannelMask9.from.Reads as mask9-from
@@ -143,6 +144,9 @@ mask2-is-enabled-one _ _ _ _ _ _ p q = enabled-tells (p ∙ sym q)
 
 mask2-statuses-one : Fixed mask2-statuses.Post
 mask2-statuses-one _ _ _ _ _ _ p q = p ∙ sym q
+
+mask2-channels-on-one : Fixed mask2-channels-on.Post
+mask2-channels-on-one _ _ _ _ _ _ p q = p ∙ sym q
 
 mask9-default-one : Fixed mask9-default.Post
 mask9-default-one _ _ _ _ _ _ p q = ap (λ (m : List ℕ). record { 0 = m }) (p ∙ sym q)

@@ -1,3 +1,4 @@
+pub mod Counts
 pub mod Determined
 pub mod Lists
 pub mod Masks

@@ -2,8 +2,8 @@
 use mathlib.Core.Path.{_≡_, refl, ap, ap₂, sym, _∙_}
 use mathlib.Core.Bool.{cond}
 use mathlib.Core.List.{List, [], _∷_}
-use Prim.Native.Nat.{ℕ, zero, suc, _<_}
-use native.Mathlib.Nat.{le-of-suc-le-suc, not-suc-le-zero}
+use Prim.Native.Nat.{ℕ, zero, suc, _<_, suc-le-suc}
+use native.Mathlib.Nat.{le-of-suc-le-suc, not-suc-le-zero, zero-lt-suc}
 use native.Mathlib.Omega.{arith}
 use lib.ListN.{length, getD}
 use borrow.Author.Tests.{eq-eqb, ne-eqb}
@@ -20,6 +20,12 @@ unfolding tabulate
 getD-tabulate zero f k d h = absurd (not-suc-le-zero h)
 getD-tabulate (suc n) f zero d h = refl
 getD-tabulate (suc n) f (suc k) d h = getD-tabulate n (λ (m : ℕ). f (suc m)) k d (le-of-suc-le-suc h)
+
+pub tabulate-same : {A : Type 0} (n : ℕ) (f g : ℕ → A) → ((k : ℕ) → k < n → f k ≡ g k) → tabulate n f ≡ tabulate n g
+unfolding tabulate
+tabulate-same zero f g e = refl
+tabulate-same (suc n) f g e =
+    ap₂ (λ x l. x ∷ l) (e zero (zero-lt-suc n)) (tabulate-same n (λ (k : ℕ). f (suc k)) (λ (k : ℕ). g (suc k)) (λ k h. e (suc k) (suc-le-suc h)))
 
 -- a list is its elements, read one by one
 pub whole : (s : List ℕ) → tabulate (length s) (λ (k : ℕ). getD s k 0) ≡ s

@@ -1,7 +1,7 @@
--- ChannelMask (RULES: S6 to S11; the standard, 5.2), at every width: the bytes of a mask are a list, and its width is the list's length.
-use Prim.Native.Nat.{ℕ, _*_, _/_, _%_}
+-- ChannelMask (RULES: S6 to S12; the standard, 5.2), at every width: the bytes of a mask are a list, and its width is the list's length.
+use Prim.Native.Nat.{ℕ, _+_, _*_, _/_, _%_}
 use mathlib.Core.Bool.{Bool, cond}
-use mathlib.Core.List.{List}
+use mathlib.Core.List.{List, [], _∷_}
 use lib.Dec.{ltb}
 use lib.ListN.{getD, set, length, replicate, take}
 use Rattle.bits.specs.Bits.{setField, bitOn, bitOf}
@@ -44,3 +44,12 @@ setChannel m c on = cond (ltb c (8 * length m)) (accepted, switched m c on) (ref
 -- the first n channels, one after another
 abbrev pub statusesOf : ℕ → List ℕ → List Bool
 statusesOf n m = tabulate n (channelOn m)
+
+-- how many of these are true
+abbrev pub howMany : List Bool → ℕ
+howMany [] = 0
+howMany (b ∷ bs) = bitOf b + howMany bs
+
+-- how many of its channels a mask switches on (RULES: S12)
+abbrev pub channelsOn : List ℕ → ℕ
+channelsOn m = howMany (statusesOf (8 * length m) m)

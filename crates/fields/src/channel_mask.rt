@@ -1,5 +1,6 @@
 use table::Refusal;
 use table::Verdict;
+ghost use mathlib.Core.List.{[], _∷_};
 ghost use mathlib.Core.Path.{_≡_};
 ghost use lib.ListN.{length, replicate};
 ghost use Rattle.table.specs.Told.{toldVerdict};
@@ -13,6 +14,7 @@ ghost use Rattle.fields.specs.Mask.{
   enabledOf,
   setChannel,
   statusesOf,
+  channelsOn,
 };
 ghost use Rattle.fields.specs.Told.{toldBank, toldEnabled};
 
@@ -110,6 +112,13 @@ fn statuses_in(m: &[u8], out: &mut [bool])
 
 // ---- Width 2: 16 channels.
 
+// Of a mask of these two bytes, how many channels are on: the ones of the 16-bit number that the bytes make, low byte first.
+fn ones_of(low: u8, high: u8) -> u32
+    ensures { λ r. ⌜ r ≡ channelsOn (low ∷ high ∷ []) ⌝ }
+{
+    u16::count_ones((low as u16) + 256 * (high as u16))
+}
+
 pub struct ChannelMask2([u8; 2]);
 
 // A mask, and whether the call that made it was accepted. A refused call hands the mask back unchanged (RULES: F2); a refused `new` hands
@@ -194,6 +203,14 @@ impl ChannelMask2 {
         let mut out = [false; 16];
         statuses_in(&m, &mut out);
         out
+    }
+
+    // How many channels are switched on (RULES: S12).
+    pub fn channels_on(self) -> u32
+        ensures { λ r. ⌜ r ≡ channelsOn (self .0) ⌝ }
+    {
+        let m = self.0;
+        ones_of(m[0], m[1])
     }
 }
 
