@@ -2,13 +2,14 @@
 use Prim.Native.Nat.{ℕ, zero, suc, _+_, _-_, _<_, _≤_}
 use mathlib.Core.Path.{_≡_, refl, sym, ap, _∙_, subst}
 use mathlib.Core.List.{List, [], _∷_, _++_, map, map-append, append-nil, append-assoc}
-use native.Mathlib.Nat.{zero-add, add-assoc}
 use native.Mathlib.Numerals.{add-one}
 use native.Mathlib.Omega.{arith}
-use lib.ListN.{length, getD, take, drop, length-append, length-drop, take-append-drop}
-use lib.Seq.{take-suc, take-length, take-append-seam, length-take-le, drop-append-add, drop-drop}
+use lib.ListN.{length, getD, take, drop, length-append, take-append-drop}
+use lib.Seq.{take-suc, take-length}
+use Rattle.bits.specs.Memory.{over, writtenAt}
+use Rattle.bits.proofs.Memory.{over-take, over-drop, over-length, over-front}
 use Rattle.walk.specs.Walk.{Cmd, encode}
-use Rattle.build.specs.Records.{Rec, cmdOf, commandBytes, over, writtenAt}
+use Rattle.build.specs.Records.{Rec, cmdOf, commandBytes}
 use Rattle.build.specs.Laying.{LaidAt}
 use Rattle.build.proofs.Writes.{exactly-laid}
 
@@ -24,43 +25,6 @@ encode-append [] ds = refl
 encode-append (c ∷ cs) ds =
     ap (λ (l : List ℕ). c .cid ∷ l)
     (ap (λ (l : List ℕ). c .body ++ l) (encode-append cs ds) ∙ sym (append-assoc (c .body) (encode cs) (encode ds)))
-
--- bytes over the front of memory, which has room for them
-over-front : (out b : List ℕ) → over out 0 b ≡ b ++ drop (length b) out
-over-front out b = ap (λ (k : ℕ). b ++ drop k out) (zero-add (length b))
-
--- ---- bytes over memory that has room for them: what is before their end, and what is behind it
-
-to-end : (o : List ℕ) (at : ℕ) (b : List ℕ) → at ≤ length o → length (take at o ++ b) ≡ at + length b
-to-end o at b h = length-append (take at o) b ∙ ap (λ (k : ℕ). k + length b) (length-take-le at o h)
-
--- up to the end of the first of them
-over-take : (o : List ℕ) (at : ℕ) (b x : List ℕ) → at ≤ length o → take (at + length b) (over o at (b ++ x)) ≡ take at o ++ b
-over-take o at b x h =
-    let rest : List ℕ = drop (at + length (b ++ x)) o in
-    let parts : over o at (b ++ x) ≡ (take at o ++ b) ++ (x ++ rest) =
-    ap (λ (l : List ℕ). take at o ++ l) (append-assoc b x rest) ∙ sym (append-assoc (take at o) b (x ++ rest)) in
-    ap (λ (k : ℕ). take k (over o at (b ++ x))) (sym (to-end o at b h))
-    ∙ ap (take (length (take at o ++ b))) parts
-    ∙ take-append-seam (take at o ++ b) (x ++ rest)
-
-module _ (o : List ℕ) (at : ℕ) (w : List ℕ) (h : at + length w ≤ length o) where
-  parts : over o at w ≡ (take at o ++ w) ++ drop (at + length w) o
-  parts = sym (append-assoc (take at o) w (drop (at + length w) o))
-
-  -- from an offset on that is behind them all
-  over-drop : (k : ℕ) → drop (at + length w + k) (over o at w) ≡ drop (at + length w + k) o
-  over-drop k =
-      ap (λ (n : ℕ). drop (n + k) (over o at w)) (sym (to-end o at w (omega arith)))
-      ∙ ap (drop (length (take at o ++ w) + k)) parts
-      ∙ drop-append-add (take at o ++ w) (drop (at + length w) o) k
-      ∙ drop-drop k (at + length w) o
-
-  pub over-length : length (over o at w) ≡ length o
-  over-length =
-      ap length parts
-      ∙ length-append (take at o ++ w) (drop (at + length w) o)
-      ∙ omega (arith, to-end o at w (omega arith), length-drop (at + length w) o)
 
 module _ (rs : List Rec) where
   front-more : (i : ℕ) (d : Rec) → i < length rs → front rs (suc i) ≡ front rs i ++ commandBytes (getD rs i d)
@@ -128,7 +92,7 @@ module _ (rs : List Rec) where
           subst (λ (x : ℕ). Laid out x next o') (sym (add-one i)) (record { behind = a; before = b; rest = c; long = e })
 
     pub laid-more : {i at : ℕ} {o : List ℕ} (next : ℕ) (o' : List ℕ) (d : Rec) → i < length rs → Laid out i at o
-        → _≡_ {A = ℕ × List ℕ} (next, o') (writtenAt o at (getD rs i d)) → Laid out (i + 1) next o'
+        → _≡_ {A = ℕ × List ℕ} (next, o') (writtenAt o at (commandBytes (getD rs i d))) → Laid out (i + 1) next o'
     laid-more {i} {at} {o} next o' d h l e =
         laid-next d h l next o' (exactly-laid o at (getD rs i d) (length (all rs)) next o' (laid-room d h l) (let k = l .long in omega arith) e)
 

@@ -11,11 +11,12 @@ use native.Mathlib.Omega.{arith}
 use lib.ListN.{length, take, drop, length-append}
 use lib.Seq.{length-take-le, take-append-seam, drop-append-seam}
 use borrow.Author.Tests.{le-leb, lt-leb}
+use Rattle.bits.specs.Memory.{over}
 use Rattle.table.specs.Answers.{Answer, given}
 use Rattle.table.specs.Answers as Answers
 use Rattle.walk.specs.Walk.{Rule, Cmd, Walk, WellFormed, end, walkOf, encode, place}
 use Rattle.walk.proofs.Ownership as Ownership
-use Rattle.build.specs.Records.{Rec, Item, whole, part, cmdOf, cmdsOf, judged, over}
+use Rattle.build.specs.Records.{Rec, Item, whole, part, cmdOf, cmdsOf, judged}
 use Rattle.build.specs.Build.{Built, total, refusedAt, refused, next, sumFrom, totalOf, fill, buildOf}
 use Rattle.build.specs.Told.{toldBuild}
 use Rattle.build.specs.declared.packed.BuildAnswer.{BuildAnswer}

@@ -6,8 +6,10 @@ use native.Mathlib.Numerals.{add-one}
 use native.Mathlib.Omega.{arith}
 use lib.ListN.{length, take, drop, set, take-append-drop, length-append}
 use lib.Seq.{take-suc-set, drop-set-lt, take-append-seam, length-take-le, take-length, paste}
-use borrow.Author.Tests.{lt-ltb, le-ltb, le-leb, lt-leb}
-use Rattle.build.specs.Records.{Rec, commandBytes, over, writtenAt, lenByte, packedAt}
+use borrow.Author.Tests.{lt-ltb, le-ltb}
+use Rattle.bits.specs.Memory.{over, writtenAt}
+use Rattle.bits.proofs.Memory.{room}
+use Rattle.build.specs.Records.{Rec, commandBytes, lenByte, packedAt}
 use Rattle.build.specs.Laying.{LaidAt}
 
 -- as many of a list's elements as are in its front, are its front
@@ -35,30 +37,22 @@ stored-pasted out at c p n h l =
     ∙ append-assoc (take at out) (c ∷ []) (take n p ++ drop (at + suc (length (take n p))) out)
 
 module _ (out : List ℕ) (at : ℕ) (r : Rec) where
-  pub no-room : length out < at + length (commandBytes r) → (at, out) ≡ writtenAt out at r
-  unfolding writtenAt
-  no-room h = simp (lt-leb (at + length (commandBytes r)) (length out) h)
-
-  pub room : at + length (commandBytes r) ≤ length out → (at + length (commandBytes r), over out at (commandBytes r)) ≡ writtenAt out at r
-  unfolding writtenAt
-  room h = simp (le-leb (at + length (commandBytes r)) (length out) h)
-
   -- the CID stored, and the payload pasted behind it
   pub stored-all : (n : ℕ) (o : List ℕ) → n ≡ length (take (r .len) (r .bytes)) → at + 1 + n ≤ length out
-      → o ≡ paste (set out at (r .cid)) (at + 1) (r .bytes) n → (at + 1 + n, o) ≡ writtenAt out at r
+      → o ≡ paste (set out at (r .cid)) (at + 1) (r .bytes) n → (at + 1 + n, o) ≡ writtenAt out at (commandBytes r)
   stored-all n o e h q =
       let l : n ≤ length (r .bytes) = subst (λ (k : ℕ). k ≤ length (r .bytes)) (sym e) (counted-le (r .len) (r .bytes)) in
       let body : take n (r .bytes) ≡ take (r .len) (r .bytes) = ap (λ (k : ℕ). take k (r .bytes)) e ∙ take-counted (r .len) (r .bytes) in
       let behind : at + 1 + n ≡ at + length (commandBytes r) = omega arith in
       ap (λ (x : List ℕ). (at + 1 + n, x)) (q ∙ stored-pasted out at (r .cid) (r .bytes) n h l ∙ ap (λ (x : List ℕ). over out at (r .cid ∷ x)) body)
       ∙ ap (λ (k : ℕ). (k, over out at (commandBytes r))) behind
-      ∙ room (omega arith)
+      ∙ room out at (commandBytes r) (omega arith)
 
   -- with no surplus
   pub exactly-laid : (end next : ℕ) (o : List ℕ) → at + length (commandBytes r) ≤ end → end ≤ length out
-      → _≡_ {A = ℕ × List ℕ} (next, o) (writtenAt out at r) → LaidAt out at end r next o
+      → _≡_ {A = ℕ × List ℕ} (next, o) (writtenAt out at (commandBytes r)) → LaidAt out at end r next o
   exactly-laid end next o h k e =
-      let p : _≡_ {A = ℕ × List ℕ} (next, o) (at + length (commandBytes r), over out at (commandBytes r)) = e ∙ sym (room (omega arith)) in
+      let p : _≡_ {A = ℕ × List ℕ} (next, o) (at + length (commandBytes r), over out at (commandBytes r)) = e ∙ sym (room out at (commandBytes r) (omega arith)) in
       let n : commandBytes r ++ [] ≡ commandBytes r = append-nil (commandBytes r) in
       record {
         surplus = [];

@@ -4,10 +4,11 @@ use mathlib.Core.Bool.{cond}
 use mathlib.Core.List.{List, [], _∷_, _++_}
 use lib.Dec.{leb, ltb}
 use lib.ListN.{length, drop}
+use Rattle.bits.specs.Memory.{over}
 use Rattle.table.specs.Answers.{Answer, given}
 use Rattle.table.specs.Answers as Answers
 use Rattle.walk.specs.Walk.{Rule, encode}
-use Rattle.build.specs.Records.{Item, cmdsOf, judgedItem, over}
+use Rattle.build.specs.Records.{Item, cmdsOf, judgedItem}
 
 -- what is answered: the total, or a refusal's number, with the place of the record that is at fault, counted from 0, where one is
 pub data Built : Type 0 where

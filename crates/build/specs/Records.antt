@@ -3,8 +3,9 @@ use Prim.Native.Nat.{ℕ, _+_, _-_, _*_, _/_, _%_}
 use mathlib.Core.Bool.{cond}
 use mathlib.Core.List.{List, [], _∷_, _++_, map}
 use mathlib.Core.Option.{Option, none, some}
-use lib.Dec.{eqb, leb, ltb}
-use lib.ListN.{length, getD, take, drop, replicate}
+use lib.Dec.{eqb, ltb}
+use lib.ListN.{length, getD, take, replicate}
+use Rattle.bits.specs.Memory.{over}
 use Rattle.table.specs.Answers.{Answer, given, refused}
 use Rattle.fields.specs.Lists.{tabulate}
 use Rattle.walk.specs.Walk.{Rule, Cmd}
@@ -65,12 +66,6 @@ ofImage image = record {
   bytes = getD (image .1) 1 0 ∷ getD (image .1) 2 0 ∷ getD (image .1) 3 0 ∷ getD (image .1) 4 0 ∷ getD (image .1) 5 0 ∷ [];
 }
 
--- ---- bytes in lent memory
-
--- memory with these bytes at an offset, in the place of those that stood there
-abbrev pub over : List ℕ → ℕ → List ℕ → List ℕ
-over out at bytes = take at out ++ (bytes ++ drop (at + length bytes) out)
-
 -- ---- records packed in bytes, eight a slot: the CID, the length, five payload bytes, and an eighth that is ignored
 
 abbrev pub slotAt : List ℕ → ℕ → Rec
@@ -99,10 +94,3 @@ packedAt s i r = cond (ltb i (length s / 8)) (over s (8 * i) (r .cid ∷ lenByte
 
 abbrev pub commandBytes : Rec → List ℕ
 commandBytes r = r .cid ∷ take (r .len) (r .bytes)
-
--- a record written at an offset, and the offset behind it. Where there is no room, nothing is written, and the offset stays
-unfoldable pub writtenAt : List ℕ → ℕ → Rec → ℕ × List ℕ
-writtenAt out at r =
-    cond (leb (at + length (commandBytes r)) (length out))
-    (at + length (commandBytes r), over out at (commandBytes r))
-    (at, out)

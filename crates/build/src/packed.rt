@@ -6,10 +6,11 @@ ghost use mathlib.Core.Path.{_≡_};
 ghost use Prim.Native.Nat.{_+_, _*_, _≤_};
 ghost use mathlib.Core.List.{map};
 ghost use lib.ListN.{length};
+ghost use Rattle.bits.specs.Memory.{over};
 ghost use Rattle.table.specs.Table.{lengthOf};
 ghost use Rattle.walk.specs.Walk.{encode};
 ghost use Rattle.build.specs.Build.{totalOf, buildOf};
-ghost use Rattle.build.specs.Records.{heldBy, slotAt, slotsOf, wholeSlots, cmdOf, over};
+ghost use Rattle.build.specs.Records.{heldBy, slotAt, slotsOf, wholeSlots, cmdOf};
 ghost use Rattle.build.specs.Told.{toldBuild};
 
 // What building answers: the bytes that the records take, or a refusal, with the record's place where one is at fault.

@@ -5,8 +5,9 @@ ghost use mathlib.Core.Path.{_≡_};
 ghost use Prim.Native.Nat.{_+_, _≤_};
 ghost use lib.ListN.{length, take};
 ghost use lib.Seq.{paste};
+ghost use Rattle.bits.specs.Memory.{writtenAt};
 ghost use Rattle.table.specs.Table.{lengthOf};
-ghost use Rattle.build.specs.Records.{judged, heldBy, commandBytes, writtenAt, packedAt, lenByte, noRecord};
+ghost use Rattle.build.specs.Records.{judged, heldBy, commandBytes, packedAt, lenByte, noRecord};
 ghost use Rattle.build.specs.Laying.{LaidAt};
 ghost use Rattle.build.specs.Told.{toldJudged};
 
@@ -63,7 +64,7 @@ impl Record {
     // Writes CID and payload at an offset, and answers the offset behind them. Where there is no room for them, nothing is written,
     // and the answer is the offset itself.
     pub fn write(self, out: &mut [u8], at: usize) -> usize
-        ensures { λ r. ⌜ (r, now (out .exit)) ≡ writtenAt (now (out .entry)) at (heldBy self) ⌝ }
+        ensures { λ r. ⌜ (r, now (out .exit)) ≡ writtenAt (now (out .entry)) at (commandBytes (heldBy self)) ⌝ }
     {
         let n = self.counted();
         if out.len() <= at {

@@ -11,11 +11,12 @@ use lib.Seq.{take-append-seam}
 use borrow.Author.Tests.{le-leb, lt-leb}
 use denote.Ref.{now}
 use Rattle.bits.specs.Every.{Every}
+use Rattle.bits.specs.Memory.{over}
 use Rattle.table.specs.Table.{lengthOf}
 use Rattle.table.specs.declared.rules.Rules.{Rules}
 use Rattle.table.proofs.Lengths.{at-most-five}
 use Rattle.walk.specs.Walk.{Rule, Cmd, Walk, end, encode, place, walkOf}
-use Rattle.build.specs.Records.{Item, whole, part, cmdsOf, over}
+use Rattle.build.specs.Records.{Item, whole, part, cmdsOf}
 use Rattle.build.specs.Build.{Built, total, refusedAt, refused, totalOf, fill, buildOf}
 use Rattle.build.specs.ThereAndBack.{Commands, Full}
 use Rattle.build.specs.declared.record.Record.{Record}

@@ -9,6 +9,7 @@ use lib.Dec.{ltb, leb}
 use lib.ListN.{length, set}
 use borrow.Author.Tests.{lt-ltb, le-ltb, le-leb, lt-leb}
 use denote.Ref.{RefT, now}
+use Rattle.bits.specs.Memory.{over, writtenAt}
 use Rattle.table.specs.Answers.{Answer, Consent, given, refused, accepted}
 use Rattle.table.specs.Told.{toldVerdict}
 use Rattle.table.specs.declared.refusal.Verdict.{Verdict}
@@ -19,7 +20,7 @@ use Rattle.creators.specs.Setters.{isMargin, sixBits, marginAt, nanoSecondsAt}
 use Rattle.walk.specs.Step.{Found, ended, command, stopped, Heading}
 use Rattle.walk.specs.Told.{toldStep}
 use Rattle.walk.specs.Walk.{Cmd}
-use Rattle.build.specs.Records.{heldBy, commandBytes, over, lenByte, packedAt, writtenAt}
+use Rattle.build.specs.Records.{heldBy, commandBytes, lenByte, packedAt}
 use Rattle.build.specs.declared.record.Record.{Record}
 use Rattle.build.proofs.record.Record.write.Reads as write
 use Rattle.build.proofs.record.Record.pack.Reads as pack

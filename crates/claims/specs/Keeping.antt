@@ -7,6 +7,7 @@ use mathlib.Core.Path.{_≡_}
 use lib.IntN.{ℤ}
 use lib.ListN.{length, set}
 use denote.Ref.{RefT, now}
+use Rattle.bits.specs.Memory.{over}
 use Rattle.table.specs.Answers.{Answer, Consent, refused, accepted}
 use Rattle.table.specs.Told.{toldVerdict}
 use Rattle.table.specs.declared.refusal.Verdict.{Verdict}
@@ -33,7 +34,7 @@ use Rattle.creators.specs.declared.device_time.DeviceTimeAnsCreator.{DeviceTime
 use Rattle.creators.specs.declared.device_time.DeviceTimeAnsCreatorAnswer.{DeviceTimeAnsCreatorAnswer}
 use Rattle.walk.specs.Step.{Found}
 use Rattle.walk.specs.Walk.{Cmd}
-use Rattle.build.specs.Records.{Rec, heldBy, commandBytes, over, packedAt}
+use Rattle.build.specs.Records.{Rec, heldBy, commandBytes, packedAt}
 use Rattle.build.specs.declared.record.Record.{Record}
 use Rattle.lent.specs.declared.iterator.MacCommandIterator.{MacCommandIterator}
 use Rattle.fields.proofs.channel_mask.ChannelMask2.default.Reads as default-2

@@ -9,6 +9,7 @@ use native.Mathlib.Decide.{decLe}
 use native.Mathlib.Omega.{arith}
 use lib.Dec.{leb, eqb}
 use lib.ListN.{length}
+use Rattle.bits.specs.Memory.{over}
 use Rattle.table.specs.declared.rules.Rules.{Rules}
 use Rattle.table.specs.Answers.{Answer, given}
 use Rattle.table.specs.Answers as Answers
@@ -16,7 +17,7 @@ use Rattle.table.specs.Table.{lengthOf}
 use Rattle.payloads.specs.Commands.{sentDown}
 use Rattle.walk.specs.Walk.{Rule}
 use Rattle.build.specs.Build.{Built, total, refusedAt, refused, next, sumFrom, totalOf, fill, buildOf}
-use Rattle.build.specs.Records.{Item, whole, part, measured, judged, judgedItem, slotsOf, over}
+use Rattle.build.specs.Records.{Item, whole, part, measured, judged, judgedItem, slotsOf}
 use Rattle.build.proofs.Judging.{at-most-six}
 use Rattle.build.proofs.Sums.{too-many, not-too-many}
 use Rattle.exports.specs.Answer.{inOne, TellsApart}

@@ -6,10 +6,11 @@ use mathlib.Core.List.{List, [], _∷_, map, append-nil}
 use native.Mathlib.Decide.{decLe}
 use native.Mathlib.Omega.{arith}
 use lib.ListN.{length, take, length-append}
+use Rattle.bits.specs.Memory.{over}
 use Rattle.table.specs.Answers.{Answer, given}
 use Rattle.table.specs.Answers as Answers
 use Rattle.walk.specs.Walk.{Rule, Cmd, encode}
-use Rattle.build.specs.Records.{Item, whole, part, judged, cmdOf, cmdsOf, over}
+use Rattle.build.specs.Records.{Item, whole, part, judged, cmdOf, cmdsOf}
 use Rattle.build.specs.Build.{Built, total, refusedAt, refused, next, sumFrom, totalOf, fill, buildOf}
 use Rattle.build.specs.declared.record.Record.{Record}
 use Rattle.build.proofs.Judging.{judged-given}

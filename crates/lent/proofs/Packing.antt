@@ -11,6 +11,7 @@ use lib.Dec.{leb}
 use lib.ListN.{length, getD, take, drop, length-map, List·getD-append}
 use lib.Seq.{getD-append-add, getD-take, getD-drop, length-take-le}
 use borrow.Author.Tests.{lt-ltb, le-ltb, eq-eqb, ne-eqb}
+use Rattle.bits.specs.Memory.{over}
 use Rattle.table.specs.Answers.{Answer, given}
 use Rattle.table.specs.Answers as Answers
 use Rattle.table.specs.Table.{lengthOf}
@@ -18,7 +19,7 @@ use Rattle.table.specs.declared.rules.Rules.{Rules}
 use Rattle.table.proofs.Lengths.{at-most-five}
 use Rattle.fields.specs.Lists.{tabulate}
 use Rattle.walk.specs.Walk.{Rule, encode}
-use Rattle.build.specs.Records.{Rec, Item, whole, part, measured, judged, heldBy, noRecord, cmdsOf, lenByte, slotAt, slotsOf, wholeSlots, over}
+use Rattle.build.specs.Records.{Rec, Item, whole, part, measured, judged, heldBy, noRecord, cmdsOf, lenByte, slotAt, slotsOf, wholeSlots}
 use Rattle.build.specs.Build.{Built, total, refusedAt, refused, next, sumFrom, totalOf, fill, buildOf}
 use Rattle.build.specs.declared.record.Record.{Record}
 use Rattle.build.proofs.Judging.{judged-given}

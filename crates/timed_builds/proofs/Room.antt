@@ -7,9 +7,10 @@ use native.Mathlib.Omega.{arith}
 use lib.Dec.{leb}
 use lib.ListN.{length}
 use borrow.Author.Tests.{leb-true}
+use Rattle.bits.specs.Memory.{over}
 use Rattle.walk.specs.Walk.{Rule}
 use Rattle.build.specs.Build.{Built, total, refusedAt, refused, totalOf, fill, buildOf}
-use Rattle.build.specs.Records.{Item, over}
+use Rattle.build.specs.Records.{Item}
 use Rattle.timed_builds.specs.Written.{written}
 
 pub has-room : (L : Rule) (xs : List Item) (out : List ℕ) → written (buildOf L xs out .0) ≤ length out

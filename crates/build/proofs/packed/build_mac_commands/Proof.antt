@@ -4,12 +4,13 @@ use mathlib.Core.Path.{_≡_, sym, ap, _∙_}
 use mathlib.Core.List.{List, map}
 use native.Mathlib.Omega.{arith}
 use lib.ListN.{length}
+use Rattle.bits.specs.Memory.{over}
+use Rattle.bits.proofs.Memory.{over-length}
 use Rattle.table.specs.Table.{lengthOf}
 use Rattle.walk.specs.Walk.{Cmd, encode}
-use Rattle.build.specs.Records.{cmdOf, slotsOf, wholeSlots, over}
+use Rattle.build.specs.Records.{cmdOf, slotsOf, wholeSlots}
 use Rattle.build.specs.Build.{total, totalOf}
 use Rattle.build.specs.Told.{toldBuild}
-use Rattle.build.proofs.Laying.{over-length}
 use Rattle.build.proofs.Slots.{cmds-of-slots, slots-full}
 use Rattle.build.proofs.ThereAndBack.{length-is-written, filled, not-filled, kept}
 use borrow.Author.Needs.{needs}

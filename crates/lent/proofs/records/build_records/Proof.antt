@@ -40,12 +40,13 @@ use denote.Triple.Spec.{Meets, tripleOf}
 use denote.Triple.Table.{entered, cited}
 use denote.Triple.Walked.{says, Stays, stay-none, stay-slice, stay-none-slice, walkOf, goes-none, goes-slice, goes-none-slice, Walks, ends-at, walked, walk-meets}
 use denote.Exit.{yes}
+use Rattle.bits.specs.Memory.{over}
 use Rattle.table.specs.Table.{lengthOf}
 use Rattle.table.specs.declared.rules.Rules.{Rules}
 use Rattle.table.proofs.rules.Rules as R
 use Rattle.table.proofs.rules.Rules.Laws as R′
 use Rattle.walk.specs.Walk.{Rule, encode}
-use Rattle.build.specs.Records.{cmdOf, over}
+use Rattle.build.specs.Records.{cmdOf}
 use Rattle.build.specs.Build.{Built, totalOf, buildOf}
 use Rattle.build.specs.Told.{toldBuild}
 use Rattle.build.specs.declared.record.Record.{Record}

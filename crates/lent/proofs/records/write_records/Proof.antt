@@ -43,8 +43,9 @@ use denote.Triple.Spec.{Meets, tripleOf}
 use denote.Triple.Table.{entered, cited}
 use denote.Triple.Walked.{says, needs, Stays, stay-slice, stay-none-slice, walkOf, goes-slice, goes-none-slice, Walks, ends-at, walked, walk-meets}
 use denote.Exit.{yes}
+use Rattle.bits.specs.Memory.{over, writtenAt}
 use Rattle.walk.specs.Walk.{encode}
-use Rattle.build.specs.Records.{heldBy, noRecord, cmdOf, over, writtenAt}
+use Rattle.build.specs.Records.{Rec, heldBy, noRecord, cmdOf, commandBytes}
 use Rattle.build.specs.declared.record.Record.{Record}
 use Rattle.build.proofs.Laying.{Laid, laid-none, laid-length, laid-more, laid-all}
 use Rattle.build.proofs.record.Record as T
@@ -89,14 +90,14 @@ module _ (ys : List Record) (bs : List ℕ) (enough : length (bytesOfAll ys) ≤
   long : (t : St ys bs) → length (t .cur) ≡ length bs
   long t = laid-length (recsOf ys) bs enough (t .laid)
 
-  one-more : (t : St ys bs) → t .i < length ys → (at : ℕ) (o : List ℕ) (r : Record) → r ≡ getD ys (t .i) noRecord → _≡_ {A = ℕ × List ℕ} (at, o) (writtenAt (t .cur) (t .at) (heldBy r))
+  one-more : (t : St ys bs) → t .i < length ys → (at : ℕ) (o : List ℕ) (r : Record) → r ≡ getD ys (t .i) noRecord → _≡_ {A = ℕ × List ℕ} (at, o) (writtenAt (t .cur) (t .at) (commandBytes (heldBy r)))
       → Laid (recsOf ys) bs (t .i + 1) at o
   one-more t l at o r e w =
       let m : length (recsOf ys) ≡ length ys = length-map ys heldBy in
       laid-more (recsOf ys) bs enough at o (heldBy noRecord) (omega arith) (t .laid)
-      (w ∙ ap (writtenAt (t .cur) (t .at)) (ap heldBy e ∙ sym (List·getD-map heldBy ys (t .i) noRecord)))
+      (w ∙ ap (λ (x : Rec). writtenAt (t .cur) (t .at) (commandBytes x)) (ap heldBy e ∙ sym (List·getD-map heldBy ys (t .i) noRecord)))
 
-  abbrev next : (t : St ys bs) → t .i < length ys → (at : ℕ) (o : List ℕ) (r : Record) → r ≡ getD ys (t .i) noRecord → _≡_ {A = ℕ × List ℕ} (at, o) (writtenAt (t .cur) (t .at) (heldBy r)) → at < 2 ^ 64 → St ys bs
+  abbrev next : (t : St ys bs) → t .i < length ys → (at : ℕ) (o : List ℕ) (r : Record) → r ≡ getD ys (t .i) noRecord → _≡_ {A = ℕ × List ℕ} (at, o) (writtenAt (t .cur) (t .at) (commandBytes (heldBy r))) → at < 2 ^ 64 → St ys bs
   next t l at o r e w fits = record { i = t .i + 1; at = at; cur = o; le = omega arith; at-fits = fits; laid = one-more t l at o r e w }
 
   all-laid : (t : St ys bs) → t .i ≡ length ys → t .cur ≡ over bs 0 (bytesOfAll ys)
@@ -221,7 +222,7 @@ module _ {M : Type 1} (𝓤 : URA M) (H : Heap 𝓤) (A : Atoms 𝓤) (W : Given
           nothing ! $ gives-usize ! (t .at) (t .at-fits) $ fjoin ! $ move ! (1 ∷ 0 ∷ []) $ fjoin ! $ move ! (3 ∷ 0 ∷ []) $ fjoin ! $ nothing ! $ move ! (3 ∷ 0 ∷ []) $ join ! $ move ! (1 ∷ 0 ∷ []) $
           asks ! fm write.ended (write.clauses 𝓤 H A mem run) writes (((ν ∷ [], tt), (fullShare, tt), tt, (r, (x δ cur, (t .at, tt))), (u ∷ [], (w (length cur) ∷ [], (vint w64 (t .at) ∷ [], tt)))), tt) (id⊢ 𝓤 _)
           (and-then ! (load ! (from ! (stop !)) (look ! 12 refl)) (and-then ! (load ! (from ! (stop !)) (look ! 4 refl)) (and-then ! (load ! (from ! (stop !)) (look ! 16 refl)) (no-more !))))
-          (λ a zs. _≡_ {A = ℕ × List ℕ} (a, zs .1 .0) (writtenAt cur (t .at) (heldBy r))) (λ a zs. id⊢ 𝓤 _) (λ z a zs e′ is′.
+          (λ a zs. _≡_ {A = ℕ × List ℕ} (a, zs .1 .0) (writtenAt cur (t .at) (commandBytes (heldBy r)))) (λ a zs. id⊢ 𝓤 _) (λ z a zs e′ is′.
           -- [the offset; ν's token; the last list; the lender's part; the token; what records owns; _9 6; _8 8; _7 10; _6 12; _5 14; _4 16; _3 18; _2 20; _1 22; _0 24]
           land ! (from ! (stop !)) (store ! 18 refl (usize-typed W a z is′)) $ rewrite ! 18 (λ (y : Val). ‵ (fat fullShare word l₃ 0 y)) (ap only (is′ .0)) refl $
           move ! (2 ∷ []) $ fsplit ! $ move ! (1 ∷ []) $ fsplit ! $ fsplit ! $ move ! (1 ∷ []) $ feqL ! (λ same.

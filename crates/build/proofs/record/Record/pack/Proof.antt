@@ -4,9 +4,10 @@ use mathlib.Core.Path.{_≡_, refl, ap, _∙_}
 use mathlib.Core.List.{List, _∷_}
 use native.Mathlib.Omega.{arith}
 use lib.ListN.{length, getD}
+use Rattle.bits.specs.Memory.{over}
 use Rattle.fields.specs.Lists.{tabulate}
 use Rattle.fields.proofs.Lists.{elements}
-use Rattle.build.specs.Records.{lenByte, heldBy, over}
+use Rattle.build.specs.Records.{lenByte, heldBy}
 use Rattle.build.proofs.Writes.{pasted-whole, packed-in, packed-out}
 use borrow.Author.Needs.{needs}
 use Rattle.build.proofs.record.Record.pack.Statement.{statement}

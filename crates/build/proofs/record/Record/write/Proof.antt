@@ -4,8 +4,9 @@ use mathlib.Core.Path.{_≡_, sym, ap, _∙_, subst}
 use native.Mathlib.Omega.{arith}
 use lib.ListN.{length, set, length-set}
 use lib.Seq.{length-paste}
-use Rattle.build.specs.Records.{heldBy}
-use Rattle.build.proofs.Writes.{counted-le, stored-all, no-room}
+use Rattle.bits.proofs.Memory.{no-room}
+use Rattle.build.specs.Records.{heldBy, commandBytes}
+use Rattle.build.proofs.Writes.{counted-le, stored-all}
 use borrow.Author.Needs.{needs}
 use Rattle.build.proofs.record.Record.write.Statement.{statement}
 use Rattle.build.proofs.record.Record.write.Tie as tie
@@ -16,7 +17,7 @@ counted-requires c κs = search needs
 returns : tie.Need-returns
 returns c =
     let a = c .before .before .before .args in
-    no-room (a .out .now) (a .at) (heldBy (a .self)) (omega arith)
+    no-room (a .out .now) (a .at) (commandBytes (heldBy (a .self))) (omega arith)
 
 add-body : tie.Need-add-body
 add-body c = search needs
@@ -27,7 +28,7 @@ sub-if2 c = search needs
 returns-2 : tie.Need-returns-2
 returns-2 c =
     let a = c .before .before .before .before .args in
-    no-room (a .out .now) (a .at) (heldBy (a .self)) (omega (arith, c .before .before .counted .ensures))
+    no-room (a .out .now) (a .at) (commandBytes (heldBy (a .self))) (omega (arith, c .before .before .counted .ensures))
 
 slice-write-out : tie.Need-slice-write-out
 slice-write-out c = search needs
