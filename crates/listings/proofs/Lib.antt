@@ -1,0 +1,5 @@
+pub mod Determined
+pub mod Lining
+pub mod Putting
+pub mod Told
+pub mod Walking

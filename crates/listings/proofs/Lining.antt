@@ -1,0 +1,211 @@
+-- A line's parts, and their lengths. Assumes nothing.
+use Prim.Native.Nat.{ℕ, zero, suc, _+_, _-_, _*_, _^_, _<_, _≤_}
+use Prim.Native.String.{String}
+use mathlib.Core.Bool.{Bool, true, false, cond}
+use mathlib.Core.List.{List, [], _∷_, _++_, append-assoc}
+use mathlib.Core.Option.{Option, some}
+use mathlib.Core.Path.{_≡_, refl, sym, ap, _∙_, subst}
+use native.Mathlib.Omega.{arith}
+use lib.Dec.{eqb, leb}
+use lib.ListN.{length, length-append, take, drop, length-take, length-drop}
+use lib.Seq.{length-take-le}
+use lib.Text.{eqt}
+use borrow.Author.Tests.{eqb-true, ne-eqb, leb-true}
+use Rattle.table.specs.declared.rules.Direction.{Direction}
+use Rattle.table.specs.declared.rules.Direction.the-variants.{Down, Up}
+use Rattle.table.specs.declared.rules.Rules.{Rules}
+use Rattle.table.specs.Table.{Row, rows, sideOf, lengthIn, lengthOf, nameIn, nameOf}
+use Rattle.table.proofs.Lengths.{at-most-five}
+use Rattle.fields.specs.Mask.{channelOn, howMany, statusesOf}
+use Rattle.fields.specs.Places.{bytesAt, LinkADRReq·channelMask}
+use Rattle.fields.proofs.Lists.{length-tabulate}
+use Rattle.text.specs.Characters.{ascii}
+use Rattle.text.specs.Decimal.{decimal}
+use Rattle.text.specs.Hex.{hexByte, hexOf}
+use Rattle.text.specs.Lines.{joined, line}
+use Rattle.text.proofs.Decimals.{decimal-at-most}
+use Rattle.text.proofs.Hexes.{hex-long}
+use Rattle.walk.specs.Walk.{placed, end, stop}
+use Rattle.listings.specs.Listing.{letterOf, payloadField, commandLine, lastLine}
+use Rattle.listings.specs.Passes.{bodyAt, before, behind, channels, isCounted, Stands}
+
+-- ---- which command has a count
+
+-- whether a byte's name is this one, by the rows
+unfoldable among : String → List Row → Direction → ℕ → Bool
+among n [] d c = eqt "" n
+among n (r ∷ rs) d c = cond (eqb c (r .cid)) (eqt (sideOf d (r .down) (r .up)) n) (among n rs d c)
+
+name-among : (n : String) (rs : List Row) (d : Direction) (c : ℕ) → eqt (nameIn rs d c) n ≡ among n rs d c
+unfolding among
+name-among n [] d c = refl
+name-among n (r ∷ rs) d c = by (eqb c (r .cid)) (name-among n rs d c)
+  where
+    by : (b : Bool) → eqt (nameIn rs d c) n ≡ among n rs d c
+        → eqt (cond b (sideOf d (r .down) (r .up)) (nameIn rs d c)) n ≡ cond b (eqt (sideOf d (r .down) (r .up)) n) (among n rs d c)
+    by true rest = refl
+    by false rest = rest
+
+never : (b : Bool) → cond b false false ≡ false
+never true = refl
+never false = refl
+
+counted-up : (c : ℕ) → isCounted (record { direction = Up }) c ≡ false
+unfolding among
+counted-up c = name-among "LinkADRReq" rows Up c ∙ simp never
+
+counted-down : (c : ℕ) → isCounted (record { direction = Down }) c ≡ eqb c 3
+unfolding among
+counted-down c = name-among "LinkADRReq" rows Down c ∙ simp never (by (eqb c 3) refl)
+  where
+    by : (b : Bool) → eqb c 3 ≡ b → cond (eqb c 2) false (cond b true false) ≡ b
+    by true e = ap (λ (k : ℕ). cond (eqb k 2) false true) (eqb-true c 3 e)
+    by false e = never (eqb c 2)
+
+-- the CID 03, sent down, and no other
+abbrev pub countedIn : Direction → ℕ → Bool
+countedIn Down c = eqb c 3
+countedIn Up c = false
+
+pub counted-is : (d : Direction) (c : ℕ) → isCounted (record { direction = d }) c ≡ countedIn d c
+counted-is Down c = counted-down c
+counted-is Up c = counted-up c
+
+-- its payload has four bytes
+four-of : (d : Direction) (c n : ℕ) → countedIn d c ≡ true → lengthIn rows d c ≡ some n → n ≡ 4
+four-of Down c n e l = let c-is : c ≡ 3 = eqb-true c 3 e in let m : _≡_ {A = Option ℕ} (some 4) (some n) = sym (ap (lengthIn rows Down) c-is) ∙ l in cc
+four-of Up c n e l = let no-way : _≡_ {A = Bool} false true = e in cc
+
+pub counted-four : (rules : Rules) (c n : ℕ) → isCounted rules c ≡ true → lengthOf rules c ≡ some n → n ≡ 4
+counted-four rules c n e l = four-of (rules .direction) c n (sym (counted-is (rules .direction) c) ∙ e) l
+
+-- ---- the parts of a command's line
+
+module _ (rules : Rules) (at cid : ℕ) (body : List ℕ) where
+  pub command-parts : line (commandLine rules (placed at cid body)) ≡ before rules at cid ++ payloadField body ++ behind (isCounted rules cid) (channels body)
+  unfolding joined
+  command-parts = by (isCounted rules cid)
+    where
+      by : (b : Bool)
+          → joined (decimal at) (ascii (letterOf (rules .direction)) ∷ hexByte cid ∷ ascii (nameOf rules cid) ∷ payloadField body ∷ cond b (decimal (channels body) ∷ []) [])
+          ≡ before rules at cid ++ payloadField body ++ behind b (channels body)
+      by true = simp append-assoc
+      by false = simp append-assoc
+
+-- ---- lengths
+
+pub letter-long : (d : Direction) → length (ascii (letterOf d)) ≡ 1
+unfolding ascii
+letter-long Down = refl
+letter-long Up = refl
+
+pub before-long : (rules : Rules) (at cid : ℕ) → length (before rules at cid) ≡ length (decimal at) + 7 + length (ascii (nameOf rules cid))
+before-long rules at cid = simp length-append (omega (arith, letter-long (rules .direction)))
+
+pub payload-long : (body : List ℕ) → length (payloadField body) ≡ cond (eqb (length body) 0) 1 (2 * length body)
+unfolding ascii
+payload-long [] = refl
+payload-long (b ∷ bs) = hex-long (b ∷ bs) ∙ sym (simp (ne-eqb (length (b ∷ bs)) 0 (λ e. omega arith)))
+
+pub body-long : {rules : Rules} {s : List ℕ} {at cid len : ℕ} → Stands rules s at cid len → length (bodyAt s at len) ≡ len
+body-long {s = s} {at = at} {len = len} w = let f = w .fits in length-take-le len (drop (at + 1) s) (simp length-drop (omega arith))
+
+pub command-long : (rules : Rules) (at cid : ℕ) (body : List ℕ) → length (line (commandLine rules (placed at cid body)))
+    ≡ length (decimal at) + 7 + length (ascii (nameOf rules cid)) + length (payloadField body) + length (behind (isCounted rules cid) (channels body))
+command-long rules at cid body = ap length (command-parts rules at cid body) ∙ simp length-append (omega (arith, letter-long (rules .direction)))
+
+pub end-long : (at : ℕ) → length (line (lastLine (end at))) ≡ length (decimal at) + 5
+unfolding joined ascii
+end-long at = length-append (decimal at) (9 ∷ joined (ascii "end") [])
+
+pub stop-long : (number at : ℕ) → length (line (lastLine (stop number at))) ≡ length (decimal at) + 7 + length (decimal number)
+unfolding joined ascii
+stop-long number at =
+    length-append (decimal at) (9 ∷ joined (ascii "stop") (decimal number ∷ []))
+    ∙ simp length-append (omega arith)
+
+-- ---- bounds: a number of 64 bits, and a name
+
+pub digits-few : (n : ℕ) → n < 2 ^ 64 → length (decimal n) ≤ 20
+digits-few n h = decimal-at-most 19 n (omega arith)
+
+-- that no name of these rows is longer, by computing
+unfoldable shortIn : Direction → List Row → Bool
+unfolding ascii
+shortIn d [] = true
+shortIn d (r ∷ rs) = cond (leb (length (ascii (sideOf d (r .down) (r .up)))) 16) (shortIn d rs) false
+
+short-name : (d : Direction) (rs : List Row) (c : ℕ) → shortIn d rs ≡ true → length (ascii (nameIn rs d c)) ≤ 16
+unfolding ascii shortIn
+short-name d [] c h = omega arith
+short-name d (r ∷ rs) c h = by (leb (length (ascii (sideOf d (r .down) (r .up)))) 16) refl h (short-name d rs c)
+  where
+    pick : (b : Bool) → length (ascii (sideOf d (r .down) (r .up))) ≤ 16 → length (ascii (nameIn rs d c)) ≤ 16
+        → length (ascii (cond b (sideOf d (r .down) (r .up)) (nameIn rs d c))) ≤ 16
+    pick true x y = x
+    pick false x y = y
+
+    by : (b : Bool) → leb (length (ascii (sideOf d (r .down) (r .up)))) 16 ≡ b → cond b (shortIn d rs) false ≡ true
+        → (shortIn d rs ≡ true → length (ascii (nameIn rs d c)) ≤ 16) → length (ascii (nameIn (r ∷ rs) d c)) ≤ 16
+    by true e h rest = pick (eqb c (r .cid)) (leb-true _ _ e) (rest h)
+    by false e h rest = let no-way : _≡_ {A = ℕ} 0 1 = cc in absurd (omega arith)
+
+short-by : (d : Direction) → shortIn d rows ≡ true
+unfolding ascii shortIn
+short-by Down = refl
+short-by Up = refl
+
+pub name-few : (rules : Rules) (c : ℕ) → length (ascii (nameOf rules c)) ≤ 16
+name-few rules c = short-name (rules .direction) rows c (short-by (rules .direction))
+
+-- ---- what stands behind a payload
+
+pub counted-long : {b : Bool} (n : ℕ) → b ≡ true → length (behind b n) ≡ 2 + length (decimal n)
+counted-long n e = ap (λ (x : Bool). length (behind x n)) e ∙ simp length-append (omega arith)
+
+pub four-taken : (s : List ℕ) (at : ℕ) {len : ℕ} → len ≡ 4 → channels (take 4 (drop (at + 1) s)) ≡ channels (bodyAt s at len)
+four-taken s at e = ap (λ (k : ℕ). channels (bodyAt s at k)) (sym e)
+
+-- no more are on than there are
+on-few : (bs : List Bool) → howMany bs ≤ length bs
+on-few [] = omega arith
+on-few (true ∷ bs) = let h = on-few bs in omega arith
+on-few (false ∷ bs) = let h = on-few bs in omega arith
+
+pub channels-few : (body : List ℕ) → channels body ≤ 16
+channels-few body =
+    let m : List ℕ = bytesAt LinkADRReq·channelMask body in
+    let two : length (bytesAt LinkADRReq·channelMask body) ≤ 2 = simp length-take (omega arith) in
+    omega (arith, on-few (statusesOf (8 * length (bytesAt LinkADRReq·channelMask body)) (bytesAt LinkADRReq·channelMask body)), length-tabulate (8 * length (bytesAt LinkADRReq·channelMask body)) (channelOn (bytesAt LinkADRReq·channelMask body)))
+
+pub behind-few : (b : Bool) (body : List ℕ) → length (behind b (channels body)) ≤ 4
+behind-few true body = omega (arith, counted-long (channels body) refl, decimal-at-most 1 (channels body) (let h = channels-few body in omega arith))
+behind-few false body = omega arith
+
+pub payload-few : (len : ℕ) → len ≤ 5 → cond (eqb len 0) 1 (2 * len) ≤ 10
+payload-few len h = by (eqb len 0)
+  where
+    by : (b : Bool) → cond b 1 (2 * len) ≤ 10
+    by true = omega arith
+    by false = omega arith
+
+-- ---- a payload's field, by whether there are bytes
+
+pub dash-is : (s : List ℕ) (at : ℕ) {len : ℕ} → len ≡ 0 → 45 ∷ [] ≡ payloadField (bodyAt s at len)
+unfolding ascii
+dash-is s at e = sym (ap (λ (k : ℕ). payloadField (bodyAt s at k)) e)
+
+in-hex : (b : List ℕ) → 1 ≤ length b → hexOf b ≡ payloadField b
+in-hex [] h = absurd (omega arith)
+in-hex (x ∷ xs) h = refl
+
+pub hex-is : (s : List ℕ) (at len : ℕ) → (len ≡ 0 → ⊥) → at + 1 + len ≤ length s → hexOf (take (at + 1 + len - (at + 1)) (drop (at + 1) s)) ≡ payloadField (bodyAt s at len)
+hex-is s at len n h =
+    let e : at + 1 + len - (at + 1) ≡ len = omega arith in
+    let l : length (bodyAt s at len) ≡ len = length-take-le len (drop (at + 1) s) (simp length-drop (omega arith)) in
+    let some : 1 ≤ len = nonzero len n in
+    ap (λ (k : ℕ). hexOf (bodyAt s at k)) e ∙ in-hex (bodyAt s at len) (omega arith)
+  where
+    nonzero : (k : ℕ) → (k ≡ 0 → ⊥) → 1 ≤ k
+    nonzero zero f = absurd (f refl)
+    nonzero (suc k) f = omega arith

@@ -1,0 +1,212 @@
+-- The text of a walk from an offset on, told from the step there. Assumes nothing.
+use Prim.Native.Nat.{ℕ, _+_, _-_, _<_, _≤_}
+use mathlib.Core.Bool.{Bool, true, false, cond}
+use mathlib.Core.List.{List, [], _∷_, _++_, append-nil, append-assoc}
+use mathlib.Core.Option.{some}
+use mathlib.Core.Path.{_≡_, refl, sym, ap, ap₂, _∙_, subst}
+use native.Mathlib.Numerals.{add-one}
+use native.Mathlib.Omega.{arith}
+use lib.Dec.{leb}
+use lib.ListN.{length, getD, take, drop, length-append}
+use lib.Seq.{drop-cons, take-append-seam}
+use borrow.Author.Tests.{le-leb, lt-leb, leb-true}
+use Rattle.bits.specs.Memory.{over, writtenAt}
+use Rattle.bits.proofs.Memory.{Puts, puts-of, puts-length, puts-more, puts-none, written-of}
+use Rattle.table.specs.Answers.{Answer, given, refused}
+use Rattle.table.specs.declared.rules.Rules.{Rules}
+use Rattle.table.specs.Table.{lengthOf}
+use Rattle.text.specs.Lines.{Line, line, text}
+use Rattle.walk.specs.Ownership.{Ends}
+use Rattle.walk.specs.Step.{Found, ended, command, stopped, firstOf, foundAt, Heading, heading, inNumbers, stepAt}
+use Rattle.walk.specs.Walk.{Cmd, Ending, end, stop, placeOf, Walk, walkFrom}
+use Rattle.walk.proofs.Laws.{ends-at, walk-ends}
+use Rattle.walk.proofs.Steps.{Goes, Here, past, ends, goes, here, walk-goes, found-ends, found-goes, found-command, command-told}
+use Rattle.listings.specs.Into.{lengthIn, into}
+use Rattle.listings.specs.Listing.{linesOf, commandLine, lastLine, printed, listingOf}
+use Rattle.listings.specs.Passes.{bodyAt, stepLine, Stands}
+
+-- ---- a text's length, and its room
+
+pub too-long : (room : ℕ) (t : List ℕ) → room < length t → refused 4 ≡ lengthIn room t
+unfolding lengthIn
+too-long room t h = simp (lt-leb (length t) room h)
+
+pub fits-in : (room : ℕ) (t : List ℕ) {n : ℕ} → n ≡ length t → length t ≤ room → given n ≡ lengthIn room t
+unfolding lengthIn
+fits-in room t e h = simp (le-leb (length t) room h) (ap given e)
+
+module _ (rules : Rules) (s : List ℕ) where
+  -- the text of the walk from an offset on
+  abbrev pub rest : ℕ → List ℕ
+  rest at = printed rules (walkFrom (lengthOf rules) at (drop at s))
+
+  -- what of it is behind the line of a step
+  abbrev pub restAfter : Answer (Found Heading) → List ℕ
+  restAfter (given (command h next)) = rest next
+  restAfter (given ended) = []
+  restAfter (given (stopped n o)) = []
+  restAfter (refused n) = []
+
+  -- ---- a step with a command
+
+  body-is : {at next : ℕ} {c : Cmd} → Goes (lengthOf rules) s at c next → bodyAt s at (length (c .body)) ≡ c .body
+  body-is {at} {next} {c} g =
+      let f = g .fits in
+      let b = g .behind in
+      let e : drop (at + 1) s ≡ c .body ++ drop next s =
+      ap (λ (k : ℕ). drop k s) (add-one at) ∙ tail-is (sym (drop-cons s at 0 (omega arith)) ∙ g .bytes) in
+      ap (take (length (c .body))) e ∙ take-append-seam (c .body) (drop next s)
+    where
+      tail-is : {a b : ℕ} {t u : List ℕ} → a ∷ t ≡ b ∷ u → t ≡ u
+      tail-is e = cc
+
+  line-is : {at next : ℕ} {c : Cmd} → Goes (lengthOf rules) s at c next
+      → stepLine rules s at (inNumbers (given (command c next))) ≡ commandLine rules (record { at = at; cmd = c })
+  line-is {at} {next} {c} g = ap (λ (b : List ℕ). commandLine rules (record { at = at; cmd = record { cid = c .cid; body = b } })) (body-is g)
+
+  pub stands : {at cid len next : ℕ} → stepAt (lengthOf rules) s at ≡ given (command (heading cid len) next) → Stands rules s at cid len
+  stands {at} {cid} {len} {next} p =
+      let t = command-told (lengthOf rules) s (foundAt (lengthOf rules) s at) p in
+      let g = found-command (lengthOf rules) s (t .1) in
+      let cid-is : t .0 .cid ≡ cid = ap (λ (h : Heading). h .cid) (t .2) in
+      let len-is : length (t .0 .body) ≡ len = ap (λ (h : Heading). h .len) (t .2) in
+      let f = g .fits in
+      let b = g .behind in
+      record { known = sym (ap (lengthOf rules) cid-is) ∙ g .known ∙ ap some len-is; fits = omega arith }
+
+  -- ---- any step
+
+  pub rest-parts : (at : ℕ) → at ≤ length s → rest at ≡ line (stepLine rules s at (stepAt (lengthOf rules) s at)) ++ restAfter (stepAt (lengthOf rules) s at)
+  unfolding text linesOf
+  rest-parts at h = by (here (lengthOf rules) s at)
+    where
+      at-step : {x y : Answer (Found Heading)} → x ≡ y → line (stepLine rules s at y) ++ restAfter y ≡ line (stepLine rules s at x) ++ restAfter x
+      at-step e = sym (ap (λ (a : Answer (Found Heading)). line (stepLine rules s at a) ++ restAfter a) e)
+
+      ending-is : (e : Ending) → placeOf e ≡ at → text (linesOf rules [] e) ≡ line (stepLine rules s at (inNumbers (given (firstOf [] e)))) ++ restAfter (inNumbers (given (firstOf [] e)))
+      ending-is (end o) p = ap (λ (k : ℕ). line (lastLine (end k)) ++ []) p
+      ending-is (stop n o) p = ap (λ (k : ℕ). line (lastLine (stop n k)) ++ []) p
+
+      command-is : (c : Cmd) (next : ℕ) → Goes (lengthOf rules) s at c next
+          → rest at ≡ line (stepLine rules s at (inNumbers (given (command c next)))) ++ rest next
+      command-is c next g =
+          ap (printed rules) (walk-goes (lengthOf rules) s g) ∙ ap (λ (l : Line). line l ++ rest next) (sym (line-is g))
+
+      by : Here (lengthOf rules) s at → rest at ≡ line (stepLine rules s at (stepAt (lengthOf rules) s at)) ++ restAfter (stepAt (lengthOf rules) s at)
+      by (past g) = absurd (omega arith)
+      by (ends e g x) =
+          ap (printed rules) (walk-ends (lengthOf rules) x) ∙ ending-is e (ends-at (lengthOf rules) x)
+          ∙ at-step (ap inNumbers (found-ends (lengthOf rules) s g x))
+      by (goes c next g) = command-is c next g ∙ at-step (ap inNumbers (found-goes (lengthOf rules) s g))
+
+  -- the same, where the step's answer is known
+  pub rest-by : (at : ℕ) → at ≤ length s → {x : Answer (Found Heading)} → x ≡ stepAt (lengthOf rules) s at → rest at ≡ line (stepLine rules s at x) ++ restAfter x
+  rest-by at h e = rest-parts at h ∙ ap (λ (a : Answer (Found Heading)). line (stepLine rules s at a) ++ restAfter a) (sym e)
+
+  pub rest-long : (at : ℕ) → at ≤ length s → {x : Answer (Found Heading)} → x ≡ stepAt (lengthOf rules) s at
+      → length (rest at) ≡ length (line (stepLine rules s at x)) + length (restAfter x)
+  rest-long at h {x} e = ap length (rest-by at h e) ∙ length-append (line (stepLine rules s at x)) (restAfter x)
+
+  -- ---- what the measuring pass keeps
+
+  module _ (room : ℕ) where
+    -- the lines of the commands before an offset have so many bytes, for which there is room
+    pub record Summed (at sum : ℕ) : Type 0 where
+      pub within : at ≤ length s
+      pub small : sum ≤ room
+      pub whole : length (listingOf rules s) ≡ sum + length (rest at)
+
+    pub summed-none : Summed 0 0
+    summed-none = record { within = omega arith; small = omega arith; whole = omega arith }
+
+    module _ {at sum n : ℕ} (w : Summed at sum) {x : Answer (Found Heading)} (e : x ≡ stepAt (lengthOf rules) s at) (l : n ≡ length (line (stepLine rules s at x))) where
+      pub summed-over : room - sum < n → refused 4 ≡ lengthIn room (listingOf rules s)
+      summed-over h = let a = w .small in too-long room (listingOf rules s) (omega (arith, w .whole, rest-long at (w .within) e))
+
+      pub summed-last : restAfter x ≡ [] → n ≤ room - sum → given (sum + n) ≡ lengthIn room (listingOf rules s)
+      summed-last z h =
+          let a = w .small in
+          let all : sum + n ≡ length (listingOf rules s) = omega (arith, w .whole, rest-long at (w .within) e, ap length z) in
+          fits-in room (listingOf rules s) all (omega arith)
+
+    pub summed-next : {at sum n : ℕ} (w : Summed at sum) {h : Heading} {next : ℕ} → given (command h next) ≡ stepAt (lengthOf rules) s at
+        → n ≡ length (line (stepLine rules s at (given (command h next)))) → n ≤ room - sum → next ≤ length s → Summed next (sum + n)
+    summed-next {at} w e l h g = let a = w .small in record { within = g; small = omega arith; whole = omega (arith, w .whole, rest-long at (w .within) e) }
+
+  -- ---- what the writing pass keeps
+
+  module _ (out : List ℕ) where
+    -- the lines of the commands before an offset are written, and all have room
+    pub record Wrote (at to : ℕ) (o : List ℕ) : Type 0 where
+      pub room : length (listingOf rules s) ≤ length out
+      pub front : List ℕ
+      pub within : at ≤ length s
+      pub whole : listingOf rules s ≡ front ++ rest at
+      pub puts : Puts out 0 front to o
+
+    pub wrote-none : length (listingOf rules s) ≤ length out → Wrote 0 0 out
+    wrote-none h = record { room = h; front = []; within = omega arith; whole = refl; puts = puts-none out 0 (omega arith) }
+
+    module _ {at to : ℕ} {o : List ℕ} (w : Wrote at to o) {x : Answer (Found Heading)} (e : x ≡ stepAt (lengthOf rules) s at) where
+      -- the next line has room
+      pub wrote-room : to + length (line (stepLine rules s at x)) ≤ length o
+      wrote-room =
+          let b = w .puts .behind in
+          let r = w .room in
+          omega (arith, puts-length (w .puts), ap length (w .whole), length-append (w .front) (rest at), rest-long at (w .within) e)
+
+      -- and is written
+      pub wrote-line : {n : ℕ} {m : List ℕ} → _≡_ {A = ℕ × List ℕ} (n, m) (writtenAt o to (line (stepLine rules s at x)))
+          → Puts out 0 (w .front ++ line (stepLine rules s at x)) n m
+      wrote-line p =
+          let b = w .puts .behind in
+          puts-more (line (stepLine rules s at x)) (w .puts) (omega (arith, puts-length (w .puts), wrote-room)) p
+
+      line-whole : listingOf rules s ≡ (w .front ++ line (stepLine rules s at x)) ++ restAfter x
+      line-whole =
+          w .whole ∙ ap (λ (l : List ℕ). w .front ++ l) (rest-by at (w .within) e)
+          ∙ sym (append-assoc (w .front) (line (stepLine rules s at x)) (restAfter x))
+
+      pub wrote-last : restAfter x ≡ [] → {n : ℕ} {m : List ℕ} → _≡_ {A = ℕ × List ℕ} (n, m) (writtenAt o to (line (stepLine rules s at x)))
+          → _≡_ {A = ℕ × List ℕ} (n, m) (writtenAt out 0 (listingOf rules s))
+      wrote-last z {n} {m} p =
+          let all : listingOf rules s ≡ w .front ++ line (stepLine rules s at x) =
+          line-whole ∙ ap (λ (l : List ℕ). (w .front ++ line (stepLine rules s at x)) ++ l) z ∙ append-nil (w .front ++ line (stepLine rules s at x)) in
+          written-of (subst (λ (t : List ℕ). Puts out 0 t n m) (sym all) (wrote-line p))
+
+    pub wrote-next : {at to : ℕ} {o : List ℕ} (w : Wrote at to o) {h : Heading} {next : ℕ} → given (command h next) ≡ stepAt (lengthOf rules) s at
+        → next ≤ length s → {n : ℕ} {m : List ℕ} → _≡_ {A = ℕ × List ℕ} (n, m) (writtenAt o to (line (stepLine rules s at (given (command h next))))) → Wrote next n m
+    wrote-next {at} w {h} {next} e g p = record {
+      room = w .room;
+      front = w .front ++ line (stepLine rules s at (given (command h next)));
+      within = g;
+      whole = line-whole w e;
+      puts = wrote-line w e p;
+    }
+
+-- ---- a text that is measured, and then written
+
+module _ (t out : List ℕ) where
+  -- a refusal says that there is no room
+  pub into-refused : {a : Answer ℕ} {n : ℕ} → a ≡ lengthIn (length out) t → a ≡ refused n → (refused n, out) ≡ into t out
+  unfolding lengthIn into
+  into-refused {a} {n} p q = by (leb (length t) (length out)) (sym q ∙ p)
+    where
+      by : (b : Bool) → refused n ≡ cond b (given (length t)) (refused 4)
+          → _≡_ {A = Answer ℕ × List ℕ} (refused n, out) (cond b (given (length t), over out 0 t) (refused 4, out))
+      by true e = let no-way : _≡_ {A = ℕ} 0 1 = cc in absurd (omega arith)
+      by false e = ap (λ (x : Answer ℕ). (x, out)) e
+
+  pub fits-of : {a : Answer ℕ} {n : ℕ} → a ≡ lengthIn (length out) t → a ≡ given n → length t ≤ length out
+  unfolding lengthIn
+  fits-of {a} {n} p q = by (leb (length t) (length out)) refl (sym q ∙ p)
+    where
+      by : (b : Bool) → leb (length t) (length out) ≡ b → given n ≡ cond b (given (length t)) (refused 4) → length t ≤ length out
+      by true l e = leb-true (length t) (length out) l
+      by false l e = let no-way : _≡_ {A = ℕ} 0 1 = cc in absurd (omega arith)
+
+  pub into-written : length t ≤ length out → {n : ℕ} {o : List ℕ} → _≡_ {A = ℕ × List ℕ} (n, o) (writtenAt out 0 t) → (given n, o) ≡ into t out
+  unfolding into
+  into-written h {n} {o} e =
+      let p = puts-of (omega arith) e in
+      simp (le-leb (length t) (length out) h) (ap₂ (λ (k : ℕ) (x : List ℕ). (given k, x)) (let b = p .behind in omega arith) (p .memory))

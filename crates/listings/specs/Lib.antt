@@ -1,0 +1,5 @@
+pub mod Into
+pub mod Listing
+pub mod Passes
+pub mod Telling
+pub mod Told

@@ -1,0 +1,56 @@
+-- The listing of a walk (RULES: L1 to L6): a line for each command that it hands out, and a last line for how it ended.
+use Prim.Native.Nat.{ℕ}
+use Prim.Native.String.{String}
+use mathlib.Core.Bool.{cond}
+use mathlib.Core.List.{List, [], _∷_}
+use lib.Text.{eqt}
+use Rattle.table.specs.declared.rules.Direction.{Direction}
+use Rattle.table.specs.declared.rules.Direction.the-variants.{Down, Up}
+use Rattle.table.specs.declared.rules.Rules.{Rules}
+use Rattle.table.specs.Table.{lengthOf, nameOf, named}
+use Rattle.fields.specs.Mask.{channelsOn}
+use Rattle.fields.specs.Places.{bytesAt, LinkADRReq·channelMask}
+use Rattle.walk.specs.Walk.{Placed, Ending, end, stop, Walk, walkOf}
+use Rattle.text.specs.Characters.{ascii}
+use Rattle.text.specs.Decimal.{decimal}
+use Rattle.text.specs.Hex.{hexByte, hexOf}
+use Rattle.text.specs.Lines.{Line, text}
+
+abbrev pub letterOf : Direction → String
+letterOf Down = "D"
+letterOf Up = "U"
+
+-- L5: a payload's bytes in hex, and a dash where it has none
+abbrev pub payloadField : List ℕ → List ℕ
+payloadField [] = ascii "-"
+payloadField (b ∷ bs) = hexOf (b ∷ bs)
+
+-- L4: what LinkADRReq alone has behind its payload: the number of channels that its mask switches on
+abbrev pub countField : String → List ℕ → List (List ℕ)
+countField name body = cond (eqt name (named "LinkADRReq" .name)) (decimal (channelsOn (bytesAt LinkADRReq·channelMask body)) ∷ []) []
+
+-- L3: the offset, the direction, the CID, the name, the payload
+abbrev pub commandLine : Rules → Placed → Line
+commandLine rules p = record {
+  first = decimal (p .at);
+  more =
+      ascii (letterOf (rules .direction)) ∷ hexByte (p .cmd .cid) ∷ ascii (nameOf rules (p .cmd .cid)) ∷ payloadField (p .cmd .body)
+      ∷ countField (nameOf rules (p .cmd .cid)) (p .cmd .body);
+}
+
+-- L6: the offset where the walk finished, and that it came to the end, or the number of the refusal that it stopped with
+abbrev pub lastLine : Ending → Line
+lastLine (end at) = record { first = decimal at; more = ascii "end" ∷ [] }
+lastLine (stop number at) = record { first = decimal at; more = ascii "stop" ∷ decimal number ∷ [] }
+
+-- L1: the commands' lines in order, and the last line
+unfoldable pub linesOf : Rules → List Placed → Ending → List Line
+linesOf rules [] e = lastLine e ∷ []
+linesOf rules (p ∷ ps) e = commandLine rules p ∷ linesOf rules ps e
+
+abbrev pub printed : Rules → Walk → List ℕ
+printed rules w = text (linesOf rules (w .cmds) (w .ending))
+
+-- the listing of a stream
+abbrev pub listingOf : Rules → List ℕ → List ℕ
+listingOf rules s = printed rules (walkOf (lengthOf rules) s)
