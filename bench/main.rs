@@ -1,8 +1,10 @@
-//! The port beside the Rust original: both are given the same inputs, must answer the same, and are timed in turn.
+//! The port beside the Rust original, and its listing, which the original has not, beside two in Rust: both sides are given the same
+//! inputs, must answer the same, and are timed in turn.
 //!
 //! `tools/bench` builds and runs it; docs/SPEED.md has the figures.
 
 mod inputs;
+mod listing;
 mod original;
 #[path = "../oracle/parser.rs"]
 mod parser;
@@ -43,10 +45,12 @@ enum Work {
     Resend,
     Hosted,
     Packed,
+    Listing,
+    ListingByHand,
 }
 
 impl Work {
-    const ALL: [Work; 9] = [
+    const ALL: [Work; 11] = [
         Work::Count,
         Work::CountDamaged,
         Work::Iterate,
@@ -56,6 +60,8 @@ impl Work {
         Work::Resend,
         Work::Hosted,
         Work::Packed,
+        Work::Listing,
+        Work::ListingByHand,
     ];
 
     fn name(self) -> &'static str {
@@ -69,6 +75,8 @@ impl Work {
             Work::Resend => "resend",
             Work::Hosted => "hosted",
             Work::Packed => "packed",
+            Work::Listing => "listing",
+            Work::ListingByHand => "listing-by-hand",
         }
     }
 
@@ -77,6 +85,7 @@ impl Work {
         match self {
             Work::Count | Work::Iterate | Work::Fields => [Some(MEGABYTE), Some(242), Some(15)],
             Work::CountDamaged => [None, Some(242), Some(15)],
+            Work::Listing | Work::ListingByHand => [Some(MEGABYTE), Some(242), None],
             Work::Set | Work::Resend | Work::Hosted | Work::Packed => [Some(4096), Some(64), Some(4)],
             Work::SetStructs => [None, None, Some(4)],
         }
@@ -85,6 +94,9 @@ impl Work {
 
 /// What a side does with a stream, of which it is told how many commands it hands out.
 type OnStream = fn(&[u8], usize) -> u64;
+
+/// What a side writes of a stream: so many bytes, in front of memory that has room for them.
+type OnText = fn(&[u8], &mut Vec<u8>) -> u64;
 
 /// A kind of work on inputs of one size, in one order.
 #[derive(Clone, Copy)]
@@ -136,11 +148,17 @@ impl Case {
             }
             Work::Hosted => self.over_lists(self.made(seed), on_objects, |list, slots, out| port::hosted(&list.objects, slots, out)),
             Work::Packed => self.over_lists(self.made(seed), on_objects, |list, _, out| port::build(&list.slots, out)),
+            Work::Listing => self.over_texts(seed, listing::plain),
+            Work::ListingByHand => self.over_texts(seed, |stream, text| listing::by_hand(stream, text)),
         }
     }
 
+    fn streams(self, made: fn(u64, Order, usize, usize) -> Streams, seed: u64) -> &'static Streams {
+        Box::leak(Box::new(made(seed, self.order, MEGABYTE / self.size, self.size)))
+    }
+
     fn over_streams(self, made: fn(u64, Order, usize, usize) -> Streams, seed: u64, rust: OnStream, rattle: OnStream) -> Ready {
-        let streams: &'static Streams = Box::leak(Box::new(made(seed, self.order, MEGABYTE / self.size, self.size)));
+        let streams = self.streams(made, seed);
         for (stream, n) in streams.each() {
             same(rust(stream, n), rattle(stream, n), stream);
         }
@@ -153,6 +171,28 @@ impl Case {
             })
         };
         Ready { commands: streams.each().map(|(_, n)| n).sum(), rust: side(rust), rattle: side(rattle) }
+    }
+
+    /// Each side writes into memory of its own that stands ready. No line has more than 32 bytes for each byte of its command.
+    fn over_texts(self, seed: u64, rust: OnText) -> Ready {
+        let streams = self.streams(Streams::whole, seed);
+        let rattle: OnText = |stream, text| port::listing(stream, text);
+        let room = || vec![0; 32 * (self.size + 1)];
+        let (mut one, mut other) = (room(), room());
+        for (stream, _) in streams.each() {
+            let (rust, rattle) = (rust(stream, &mut one), rattle(stream, &mut other));
+            same(String::from_utf8_lossy(&one[..rust as usize]), String::from_utf8_lossy(&other[..rattle as usize]), stream);
+        }
+        let side = |side: OnText, text: Vec<u8>| {
+            let text = RefCell::new(text);
+            Box::new(move || {
+                let side = black_box(side);
+                for (stream, _) in streams.each() {
+                    black_box(side(black_box(stream), black_box(&mut text.borrow_mut())));
+                }
+            })
+        };
+        Ready { commands: streams.each().map(|(_, n)| n).sum(), rust: side(rust, one), rattle: side(rattle, other) }
     }
 
     fn lists(self, seed: u64) -> &'static [Vec<Wish>] {

@@ -101,6 +101,8 @@ alone! {
     }
 }
 
+alone! { listing, }
+
 /// A creator is made and set for each wish, and they are built. All stands on the stack, as a program without a heap has it.
 macro_rules! set {
     ($n:literal) => {
