@@ -2,6 +2,7 @@
 use mathlib.Core.Path.{sym, _∙_}
 use denote.Ref.{now}
 use Rattle.bits.proofs.Fixed.{Fixed, FixedWith}
+use Rattle.exports.proofs.listing.nazhdivar_listing.Reads as nazhdivar-listing
 use Rattle.exports.proofs.records.nazhdivar_build.Reads as nazhdivar-build
 use Rattle.exports.proofs.streams.nazhdivar_count.Reads as nazhdivar-count
 
@@ -10,3 +11,6 @@ nazhdivar-build-one _ _ _ _ _ _ p q = p ∙ sym q
 
 nazhdivar-count-one : Fixed nazhdivar-count.Post
 nazhdivar-count-one _ _ _ _ _ _ p q = p ∙ sym q
+
+nazhdivar-listing-one : FixedWith (λ s. now (s .1 .0)) nazhdivar-listing.Post
+nazhdivar-listing-one _ _ _ _ _ _ p q = p ∙ sym q

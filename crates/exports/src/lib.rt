@@ -1,6 +1,8 @@
-// What a program in C or Rust links: the walk and the build down, each behind one function of slices and numbers.
+// What a program in C or Rust links: the walk, its listing and the build down, each behind one function of slices and numbers.
+pub mod listing;
 pub mod records;
 pub mod streams;
 
+pub use listing::nazhdivar_listing;
 pub use records::nazhdivar_build;
 pub use streams::nazhdivar_count;

@@ -16,7 +16,7 @@ use Rattle.table.specs.Answers.{Answer, given, refused}
 use Rattle.table.specs.declared.rules.Rules.{Rules}
 use Rattle.table.specs.Table.{lengthOf}
 use Rattle.text.specs.Lines.{Line, line, text}
-use Rattle.walk.specs.Ownership.{Ends}
+use Rattle.text.proofs.Decimals.{decimal-some}
 use Rattle.walk.specs.Step.{Found, ended, command, stopped, firstOf, foundAt, Heading, heading, inNumbers, stepAt}
 use Rattle.walk.specs.Walk.{Cmd, Ending, end, stop, placeOf, Walk, walkFrom}
 use Rattle.walk.proofs.Laws.{ends-at, walk-ends}
@@ -24,6 +24,7 @@ use Rattle.walk.proofs.Steps.{Goes, Here, past, ends, goes, here, walk-goes, fo
 use Rattle.listings.specs.Into.{lengthIn, into}
 use Rattle.listings.specs.Listing.{linesOf, commandLine, lastLine, printed, listingOf}
 use Rattle.listings.specs.Passes.{bodyAt, stepLine, Stands}
+use Rattle.listings.proofs.Lining.{command-long, end-long, stop-long}
 
 -- ---- a text's length, and its room
 
@@ -210,3 +211,15 @@ module _ (t out : List ℕ) where
   into-written h {n} {o} e =
       let p = puts-of (omega arith) e in
       simp (le-leb (length t) (length out) h) (ap₂ (λ (k : ℕ) (x : List ℕ). (given k, x)) (let b = p .behind in omega arith) (p .memory))
+
+-- ---- a listing is never shorter than its shortest last line
+
+line-six : (rules : Rules) (s : List ℕ) (at : ℕ) (x : Answer (Found Heading)) → 6 ≤ length (line (stepLine rules s at x))
+line-six rules s at (given (command h next)) = omega (arith, command-long rules at (h .cid) (bodyAt s at (h .len)), decimal-some at)
+line-six rules s at (given ended) = omega (arith, end-long at, decimal-some at)
+line-six rules s at (given (stopped n o)) = omega (arith, stop-long n at, decimal-some at)
+line-six rules s at (refused n) = omega (arith, end-long at, decimal-some at)
+
+pub six-at-least : (rules : Rules) (s : List ℕ) → 6 ≤ length (listingOf rules s)
+six-at-least rules s =
+    omega (arith, rest-long rules s 0 (omega arith) refl, line-six rules s 0 (stepAt (lengthOf rules) s 0))

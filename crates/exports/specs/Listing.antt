@@ -1,0 +1,23 @@
+-- What the listing's writer answers, as one number.
+use Prim.Native.Nat.{ℕ}
+use mathlib.Core.List.{List}
+use mathlib.Core.Path.{_≡_}
+use Rattle.table.specs.Answers.{Answer, given, refused}
+use Rattle.payloads.specs.Commands.{sentDown}
+use Rattle.listings.specs.Into.{into}
+use Rattle.listings.specs.Listing.{listingOf}
+
+-- the text's length, or the refusal's number
+abbrev pub number : Answer ℕ → ℕ
+number (given n) = n
+number (refused k) = k
+
+-- that number, and the lent memory
+abbrev pub withNumber : Answer ℕ × List ℕ → ℕ × List ℕ
+withNumber a = (number (a .0), a .1)
+
+-- two listings down with the same number have the same answer: the refusal's number is 4, and no text is so short
+abbrev pub ListingTellsApart : Type 0
+ListingTellsApart =
+    (s t o p : List ℕ) → number (into (listingOf sentDown s) o .0) ≡ number (into (listingOf sentDown t) p .0)
+    → into (listingOf sentDown s) o .0 ≡ into (listingOf sentDown t) p .0
