@@ -1,5 +1,6 @@
 pub mod Determined
 pub mod Lining
 pub mod Putting
+pub mod Telling
 pub mod Told
 pub mod Walking

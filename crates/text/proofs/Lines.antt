@@ -1,9 +1,12 @@
 -- A text's lines, and a line's fields, can be told apart again. Assumes nothing.
 use Prim.Native.Nat.{ℕ, _≤_}
+use mathlib.Core.Bool.{Bool, true, false, cond}
 use mathlib.Core.List.{List, [], _∷_, _++_, append-assoc}
 use mathlib.Core.Path.{_≡_, refl, sym, ap₂, ap, _∙_}
 use native.Mathlib.Omega.{arith}
+use lib.Dec.{leb}
 use lib.ListN.{length, length-append}
+use borrow.Author.Tests.{leb-true}
 use Rattle.text.specs.Lines.{Line, joined, line, text, Plain, AllPlain, PlainLine, PlainText}
 
 data Mark : ℕ → Type 0 where
@@ -65,3 +68,17 @@ text-apart (l ∷ ls) [] p q e = absurd (omega (arith, ap length e, length-appen
 text-apart (l ∷ ls) (m ∷ ms) p q e =
     let r = line-apart l m (text ls) (text ms) (p .0) (q .0) e in
     ap₂ (λ (l : Line) (ls : List Line). l ∷ ls) (r .0) (text-apart ls ms (p .1) (q .1) (r .1))
+
+-- whether all characters are past the newline, by computing
+unfoldable pub past : List ℕ → Bool
+past [] = true
+past (c ∷ s) = cond (leb 11 c) (past s) false
+
+pub past-plain : (s : List ℕ) → past s ≡ true → Plain s
+unfolding past
+past-plain [] h = tt
+past-plain (c ∷ s) h = by (leb 11 c) refl (past-plain s) h
+  where
+    by : (b : Bool) → leb 11 c ≡ b → (past s ≡ true → Plain s) → cond b (past s) false ≡ true → Plain (c ∷ s)
+    by true e rest g = let l = leb-true 11 c e in (λ e. omega arith, λ e. omega arith, rest g)
+    by false e rest g = let no-way : _≡_ {A = ℕ} 0 1 = cc in absurd (omega arith)
