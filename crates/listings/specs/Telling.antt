@@ -1,5 +1,5 @@
 -- What a listing tells (RULES: L11), for every direction and every table. proofs/Telling.antt proves each claim.
-use Prim.Native.Nat.{ℕ, _+_, _*_, _≤_}
+use Prim.Native.Nat.{ℕ, _≤_}
 use mathlib.Core.List.{List}
 use mathlib.Core.Path.{_≡_}
 use lib.ListN.{length, replicate}
