@@ -5,6 +5,7 @@ use Rattle.claims.proofs.ByHand.{by-hand}
 use Rattle.claims.proofs.Choosing.{chooser}
 use Rattle.claims.proofs.Examples.{examples-hold}
 use Rattle.claims.proofs.Keeping.{refusals-keep, masks-tell}
+use Rattle.claims.proofs.Listing.{listings-tell}
 use Rattle.claims.proofs.Owning.{one-owner, next-is-step}
 
 pub demands : Demands
@@ -17,4 +18,5 @@ demands = record {
   builds = builds;
   by-hand = by-hand;
   chooser = record { so = chooser };
+  listings-tell = listings-tell;
 }

@@ -1,4 +1,4 @@
--- The demands (RULES: D1 to D3), each as one statement. They speak of functions: each holds of every outcome that the contracts of the public
+-- The demands (RULES: D1 to D3), each as one statement, and what the listing tells (RULES: L). They speak of functions: each holds of every outcome that the contracts of the public
 -- functions admit, so a body that is changed together with its contract can't pass unless the sentence still holds of it.
 use Prim.Native.Nat.{ℕ}
 use mathlib.Core.List.{List}
@@ -8,6 +8,7 @@ use Rattle.claims.specs.Building.{Builds}
 use Rattle.claims.specs.ByHand.{ByHand}
 use Rattle.claims.specs.Choosing.{Chooser}
 use Rattle.claims.specs.Examples.{ExamplesHold, Lifted}
+use Rattle.claims.specs.Listing.{ListingsTell}
 use Rattle.claims.specs.Keeping.{RefusalsKeep, MasksTell}
 use Rattle.claims.specs.Owning.{OneOwner, NextIsStep}
 
@@ -27,3 +28,5 @@ pub record Demands : Type 2 where
   pub by-hand : ByHand
   -- C1 to C4: where in a frame the commands are
   pub chooser : Lifted Chooser
+  -- L1 to L11: the listing says what is read
+  pub listings-tell : ListingsTell

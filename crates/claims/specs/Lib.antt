@@ -5,5 +5,6 @@ pub mod Demands
 pub mod Examples
 pub mod Handing
 pub mod Keeping
+pub mod Listing
 pub mod Outcomes
 pub mod Owning
