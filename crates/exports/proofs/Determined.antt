@@ -3,6 +3,7 @@ use mathlib.Core.Path.{sym, _∙_}
 use denote.Ref.{now}
 use Rattle.bits.proofs.Fixed.{Fixed, FixedWith}
 use Rattle.exports.proofs.listing.nazhdivar_listing.Reads as nazhdivar-listing
+use Rattle.exports.proofs.listing.nazhdivar_listing_len.Reads as nazhdivar-listing-len
 use Rattle.exports.proofs.records.nazhdivar_build.Reads as nazhdivar-build
 use Rattle.exports.proofs.streams.nazhdivar_count.Reads as nazhdivar-count
 
@@ -14,3 +15,6 @@ nazhdivar-count-one _ _ _ _ _ _ p q = p ∙ sym q
 
 nazhdivar-listing-one : FixedWith (λ s. now (s .1 .0)) nazhdivar-listing.Post
 nazhdivar-listing-one _ _ _ _ _ _ p q = p ∙ sym q
+
+nazhdivar-listing-len-one : Fixed nazhdivar-listing-len.Post
+nazhdivar-listing-len-one _ _ _ _ _ _ p q = p ∙ sym q

@@ -2,31 +2,49 @@
 use Prim.Native.Nat.{ℕ, _+_, _≤_}
 use mathlib.Core.Bool.{Bool, true, false, cond}
 use mathlib.Core.List.{List}
-use mathlib.Core.Path.{_≡_, refl, ap}
+use mathlib.Core.Path.{_≡_, refl, sym, ap, _∙_}
 use native.Mathlib.Omega.{arith}
 use lib.Dec.{leb}
 use lib.ListN.{length}
 use Rattle.bits.specs.Memory.{over}
 use Rattle.table.specs.Answers.{Answer, given, refused}
 use Rattle.payloads.specs.Commands.{sentDown}
-use Rattle.listings.specs.Into.{into}
+use Rattle.listings.specs.Into.{lengthIn, into}
 use Rattle.listings.specs.Listing.{listingOf}
 use Rattle.listings.proofs.Walking.{six-at-least}
 use Rattle.exports.specs.Listing.{number, ListingTellsApart}
 
 -- the answer where a text of m bytes has room, and where not
-abbrev answer : ℕ → Bool → List ℕ → List ℕ → Answer ℕ × List ℕ
-answer m fits written kept = cond fits (given m, written) (refused 4, kept)
+abbrev answer : ℕ → Bool → Answer ℕ
+answer m fits = cond fits (given m) (refused 4)
 
-told-apart : (m n : ℕ) → 6 ≤ m → 6 ≤ n → (a b : Bool) (x y z w : List ℕ) → number (answer m a x y .0) ≡ number (answer n b z w .0) → answer m a x y .0 ≡ answer n b z w .0
-told-apart m n h k true true x y z w e = ap given e
-told-apart m n h k true false x y z w e = absurd (omega arith)
-told-apart m n h k false true x y z w e = absurd (omega arith)
-told-apart m n h k false false x y z w e = refl
+told-apart : (m n : ℕ) → 6 ≤ m → 6 ≤ n → (a b : Bool) → number (answer m a) ≡ number (answer n b) → answer m a ≡ answer n b
+told-apart m n h k true true e = ap given e
+told-apart m n h k true false e = absurd (omega arith)
+told-apart m n h k false true e = absurd (omega arith)
+told-apart m n h k false false e = refl
+
+measured-apart : (s t : List ℕ) (m n : ℕ) → number (lengthIn m (listingOf sentDown s)) ≡ number (lengthIn n (listingOf sentDown t))
+    → lengthIn m (listingOf sentDown s) ≡ lengthIn n (listingOf sentDown t)
+unfolding lengthIn
+measured-apart s t m n e =
+    told-apart (length (listingOf sentDown s)) (length (listingOf sentDown t)) (six-at-least sentDown s) (six-at-least sentDown t)
+    (leb (length (listingOf sentDown s)) m) (leb (length (listingOf sentDown t)) n) e
+
+-- the writer answers as one who only measures, with memory's length for the room
+as-measured : (t out : List ℕ) → into t out .0 ≡ lengthIn (length out) t
+unfolding into lengthIn
+as-measured t out = by (leb (length t) (length out))
+  where
+    by : (b : Bool) → (cond {A = Answer ℕ × List ℕ} b (given (length t), over out 0 t) (refused 4, out)) .0 ≡ answer (length t) b
+    by true = refl
+    by false = refl
 
 pub listing-tells-apart : ListingTellsApart
-unfolding into
-listing-tells-apart s t o p e =
-    told-apart (length (listingOf sentDown s)) (length (listingOf sentDown t)) (six-at-least sentDown s) (six-at-least sentDown t)
-    (leb (length (listingOf sentDown s)) (length o)) (leb (length (listingOf sentDown t)) (length p))
-    (over o 0 (listingOf sentDown s)) o (over p 0 (listingOf sentDown t)) p e
+listing-tells-apart = record {
+  written = λ s t o p e.
+      as-measured (listingOf sentDown s) o
+      ∙ measured-apart s t (length o) (length p) (ap number (sym (as-measured (listingOf sentDown s) o)) ∙ e ∙ ap number (as-measured (listingOf sentDown t) p))
+      ∙ sym (as-measured (listingOf sentDown t) p);
+  measured = measured-apart;
+}

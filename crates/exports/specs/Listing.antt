@@ -4,7 +4,7 @@ use mathlib.Core.List.{List}
 use mathlib.Core.Path.{_≡_}
 use Rattle.table.specs.Answers.{Answer, given, refused}
 use Rattle.payloads.specs.Commands.{sentDown}
-use Rattle.listings.specs.Into.{into}
+use Rattle.listings.specs.Into.{lengthIn, into}
 use Rattle.listings.specs.Listing.{listingOf}
 
 -- the text's length, or the refusal's number
@@ -16,8 +16,9 @@ number (refused k) = k
 abbrev pub withNumber : Answer ℕ × List ℕ → ℕ × List ℕ
 withNumber a = (number (a .0), a .1)
 
--- two listings down with the same number have the same answer: the refusal's number is 4, and no text is so short
-abbrev pub ListingTellsApart : Type 0
-ListingTellsApart =
-    (s t o p : List ℕ) → number (into (listingOf sentDown s) o .0) ≡ number (into (listingOf sentDown t) p .0)
-    → into (listingOf sentDown s) o .0 ≡ into (listingOf sentDown t) p .0
+-- two texts down with the same number have the same answer, written or only measured: the refusal's number is 4, and no text is so short
+pub record ListingTellsApart : Type 0 where
+  pub written : (s t o p : List ℕ) → number (into (listingOf sentDown s) o .0) ≡ number (into (listingOf sentDown t) p .0)
+      → into (listingOf sentDown s) o .0 ≡ into (listingOf sentDown t) p .0
+  pub measured : (s t : List ℕ) (m n : ℕ) → number (lengthIn m (listingOf sentDown s)) ≡ number (lengthIn n (listingOf sentDown t))
+      → lengthIn m (listingOf sentDown s) ≡ lengthIn n (listingOf sentDown t)

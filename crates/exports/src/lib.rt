@@ -4,5 +4,6 @@ pub mod records;
 pub mod streams;
 
 pub use listing::nazhdivar_listing;
+pub use listing::nazhdivar_listing_len;
 pub use records::nazhdivar_build;
 pub use streams::nazhdivar_count;

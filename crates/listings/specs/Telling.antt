@@ -1,4 +1,4 @@
--- What a listing tells (RULES: L11), for every direction and every table. proofs/Telling.antt proves each claim.
+-- What a listing tells (RULES: L10, L11), in either direction. proofs/Telling.antt proves each claim.
 use Prim.Native.Nat.{ℕ, _≤_}
 use mathlib.Core.List.{List}
 use mathlib.Core.Path.{_≡_}
