@@ -65,13 +65,13 @@ fn answer(input: &[u8], out: &mut [u8]) -> usize
         return put_bad(out);
     }
     let letter = input[0];
-    if letter == 68 {
+    if letter == b'D' {
         let down = Rules {
             direction: Direction::Down,
         };
         return put_listing(down, &input[1..], out);
     }
-    if letter == 85 {
+    if letter == b'U' {
         let up = Rules {
             direction: Direction::Up,
         };

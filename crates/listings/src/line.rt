@@ -32,8 +32,8 @@ fn letter(rules: Rules) -> u8
 {
     let direction = rules.direction;
     match direction {
-        Direction::Down => 68,
-        Direction::Up => 85,
+        Direction::Down => b'D',
+        Direction::Up => b'U',
     }
 }
 
@@ -113,13 +113,13 @@ fn put_before(rules: Rules, out: &mut [u8], to: usize, at: usize, cid: u8) -> us
     ensures { λ r. ⌜ (r, now (out .exit)) ≡ writtenAt (now (out .entry)) to (before rules at cid) ⌝ }
 {
     let a = put_decimal(out, to, at);
-    let b = put_byte(out, a, 9);
+    let b = put_byte(out, a, b'\t');
     let c = put_byte(out, b, letter(rules));
-    let d = put_byte(out, c, 9);
+    let d = put_byte(out, c, b'\t');
     let e = put_hex(out, d, cid);
-    let f = put_byte(out, e, 9);
+    let f = put_byte(out, e, b'\t');
     let g = put_name(rules, out, f, cid);
-    put_byte(out, g, 9)
+    put_byte(out, g, b'\t')
 }
 
 fn put_payload(out: &mut [u8], to: usize, stream: &[u8], at: usize, len: usize) -> usize
@@ -127,7 +127,7 @@ fn put_payload(out: &mut [u8], to: usize, stream: &[u8], at: usize, len: usize) 
     ensures { λ r. ⌜ (r, now (out .exit)) ≡ writtenAt (now (out .entry)) to (payloadField (bodyAt (now (stream .entry)) at len)) ⌝ }
 {
     if len == 0 {
-        return put_byte(out, to, 45);
+        return put_byte(out, to, b'-');
     }
     let body = at + 1;
     let next = body + len;
@@ -150,11 +150,11 @@ fn put_behind(
     if is_counted(rules, cid) {
         let body = at + 1;
         let n = channels_at(stream, body);
-        let a = put_byte(out, to, 9);
+        let a = put_byte(out, to, b'\t');
         let b = put_decimal(out, a, n);
-        put_byte(out, b, 10)
+        put_byte(out, b, b'\n')
     } else {
-        put_byte(out, to, 10)
+        put_byte(out, to, b'\n')
     }
 }
 
@@ -191,7 +191,7 @@ fn put_stop(out: &mut [u8], to: usize, at: usize, number: u8) -> usize
     let a = put_decimal(out, to, at);
     let b = put_bytes(out, a, b"\tstop\t");
     let c = put_decimal(out, b, number as usize);
-    put_byte(out, c, 10)
+    put_byte(out, c, b'\n')
 }
 
 // Writes the line that a step is listed by, and answers the offset behind it.

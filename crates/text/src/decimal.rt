@@ -22,7 +22,7 @@ fn digit(d: usize) -> u8
     requires { ⌜ d < 10 ⌝ }
     ensures { λ r. ⌜ r ≡ 48 + d ⌝ }
 {
-    48 + d as u8
+    b'0' + d as u8
 }
 
 pub fn put_decimal(out: &mut [u8], at: usize, n: usize) -> usize

@@ -8,7 +8,7 @@ fn hex_digit(d: u8) -> u8
     requires { ⌜ d < 16 ⌝ }
     ensures { λ r. ⌜ r ≡ hexDigit d ⌝ }
 {
-    if d < 10 { 48 + d } else { 55 + d }
+    if d < 10 { b'0' + d } else { b'A' + (d - 10) }
 }
 
 // One byte.
