@@ -88,7 +88,7 @@ pub fn by_hand(stream: &[u8], out: &mut [u8]) -> u64 {
         let Some(&cid) = stream.get(at) else { break b"\tend\n" };
         let Some(&(middle, len)) = DOWN.get(cid as usize).filter(|(middle, _)| !middle.is_empty()) else { break b"\tstop\t1\n" };
         let Some(payload) = stream.get(at + 1..at + 1 + len) else { break b"\tstop\t2\n" };
-        end = number(at, out, end);
+        end = decimal(at, out, end);
         out[end..end + middle.len()].copy_from_slice(middle);
         end += middle.len();
         // Five bytes, whatever the length, where the stream has them: so no length is guessed.
@@ -103,25 +103,25 @@ pub fn by_hand(stream: &[u8], out: &mut [u8]) -> u64 {
         }
         if cid == 0x03 {
             out[end] = b'\t';
-            end = number((payload[1].count_ones() + payload[2].count_ones()) as usize, out, end + 1);
+            end = decimal((payload[1].count_ones() + payload[2].count_ones()) as usize, out, end + 1);
         }
         out[end] = b'\n';
         end += 1;
         at += 1 + len;
     };
-    end = number(at, out, end);
+    end = decimal(at, out, end);
     out[end..end + ending.len()].copy_from_slice(ending);
     (end + ending.len()) as u64
 }
 
 /// Writes a number in decimal behind so many bytes, and answers where it ends.
-fn number(number: usize, out: &mut [u8], start: usize) -> usize {
+fn decimal(n: usize, out: &mut [u8], start: usize) -> usize {
     let (mut end, mut power) = (start + 1, 10);
-    while power <= number {
+    while power <= n {
         power *= 10;
         end += 1;
     }
-    let mut rest = number;
+    let mut rest = n;
     for digit in out[start..end].iter_mut().rev() {
         *digit = b'0' + (rest % 10) as u8;
         rest /= 10;

@@ -101,6 +101,7 @@ alone! {
     }
 }
 
+// The listing in plain Rust, bench/listing.rs, reads by this one.
 alone! { listing, }
 
 /// A creator is made and set for each wish, and they are built. All stands on the stack, as a program without a heap has it.

@@ -1,7 +1,7 @@
 -- Bytes written over lent memory, and bytes behind bytes. Assumes nothing.
 use Prim.Native.Nat.{ℕ, suc, _+_, _<_, _≤_}
 use mathlib.Core.Path.{_≡_, refl, sym, ap, ap₂, _∙_}
-use mathlib.Core.List.{List, [], _∷_, _++_, append-assoc}
+use mathlib.Core.List.{List, [], _∷_, _++_, append-assoc, append-nil}
 use native.Mathlib.Decide.{decLe}
 use native.Mathlib.Nat.{add-zero, zero-add}
 use native.Mathlib.Numerals.{add-one}
@@ -13,7 +13,7 @@ use Rattle.bits.specs.Memory.{over, writtenAt}
 
 -- ---- memory with bytes over it
 
-pub to-end : (o : List ℕ) (at : ℕ) (b : List ℕ) → at ≤ length o → length (take at o ++ b) ≡ at + length b
+to-end : (o : List ℕ) (at : ℕ) (b : List ℕ) → at ≤ length o → length (take at o ++ b) ≡ at + length b
 to-end o at b h = length-append (take at o) b ∙ ap (λ (k : ℕ). k + length b) (length-take-le at o h)
 
 -- up to the end of the first of the bytes
@@ -32,10 +32,7 @@ module _ (o : List ℕ) (at : ℕ) (w : List ℕ) (h : at + length w ≤ length 
 
   -- up to the bytes' end
   over-whole : take (at + length w) (over o at w) ≡ take at o ++ w
-  over-whole =
-      ap (λ (k : ℕ). take k (over o at w)) (sym (to-end o at w (omega arith)))
-      ∙ ap (take (length (take at o ++ w))) parts
-      ∙ take-append-seam (take at o ++ w) (drop (at + length w) o)
+  over-whole = ap (λ (b : List ℕ). take (at + length w) (over o at b)) (sym (append-nil w)) ∙ over-take o at w [] (omega arith)
 
   -- from an offset on that is behind them all
   pub over-drop : (k : ℕ) → drop (at + length w + k) (over o at w) ≡ drop (at + length w + k) o
@@ -51,8 +48,8 @@ module _ (o : List ℕ) (at : ℕ) (w : List ℕ) (h : at + length w ≤ length 
       ∙ length-append (take at o ++ w) (drop (at + length w) o)
       ∙ omega (arith, to-end o at w (omega arith), length-drop (at + length w) o)
 
-  -- bytes behind bytes
-  pub over-over : (v : List ℕ) → over (over o at w) (at + length w) v ≡ over o at (w ++ v)
+  -- more bytes, where these end
+  over-over : (v : List ℕ) → over (over o at w) (at + length w) v ≡ over o at (w ++ v)
   over-over v =
       let e : at + length w + length v ≡ at + length (w ++ v) = omega (arith, length-append w v) in
       ap₂ (λ (x y : List ℕ). x ++ (v ++ y)) over-whole (over-drop (length v) ∙ ap (λ (k : ℕ). drop k o) e)
@@ -82,6 +79,10 @@ over-one o j c h = ap (λ (x : List ℕ). set x j c) (sym (over-none o (j + 1)))
 
 -- ---- bytes written, or not
 
+-- what writing bytes leaves: the offset behind, and memory
+abbrev pub Left : ℕ → List ℕ → List ℕ → ℕ → List ℕ → Type 0
+Left next o out at bytes = _≡_ {A = ℕ × List ℕ} (next, o) (writtenAt out at bytes)
+
 pub no-room : (out : List ℕ) (at : ℕ) (bytes : List ℕ) → length out < at + length bytes → (at, out) ≡ writtenAt out at bytes
 unfolding writtenAt
 no-room out at bytes h = simp (lt-leb (at + length bytes) (length out) h)
@@ -98,19 +99,19 @@ written-nothing out at = by (decLe (at + 0) (length out))
     by (yes h) = ap₂ (λ (n : ℕ) (x : List ℕ). (n, x)) (sym (add-zero at)) (sym (over-none out at)) ∙ room out at [] h
     by (no h) = no-room out at [] (omega arith)
 
--- bytes that had room are written, and `next` is behind them: what a run of writers keeps
+-- what writers that follow one another keep: bytes that had room stand there, and `next` is where they end
 pub record Puts (out : List ℕ) (at : ℕ) (bytes : List ℕ) (next : ℕ) (o : List ℕ) : Type 0 where
   pub fits : at + length bytes ≤ length out
   pub behind : next ≡ at + length bytes
   pub memory : o ≡ over out at bytes
 
 module _ {out : List ℕ} {at : ℕ} {bytes : List ℕ} {next : ℕ} {o : List ℕ} where
-  pub puts-of : at + length bytes ≤ length out → _≡_ {A = ℕ × List ℕ} (next, o) (writtenAt out at bytes) → Puts out at bytes next o
+  pub puts-of : at + length bytes ≤ length out → Left next o out at bytes → Puts out at bytes next o
   puts-of h e =
       let q : _≡_ {A = ℕ × List ℕ} (next, o) (at + length bytes, over out at bytes) = e ∙ sym (room out at bytes h) in
       record { fits = h; behind = ap (λ x. x .0) q; memory = ap (λ x. x .1) q }
 
-  pub written-of : Puts out at bytes next o → _≡_ {A = ℕ × List ℕ} (next, o) (writtenAt out at bytes)
+  pub written-of : Puts out at bytes next o → Left next o out at bytes
   written-of p = ap₂ (λ (n : ℕ) (x : List ℕ). (n, x)) (p .behind) (p .memory) ∙ room out at bytes (p .fits)
 
   pub puts-length : Puts out at bytes next o → length o ≡ length out
@@ -130,7 +131,7 @@ module _ {out : List ℕ} {at : ℕ} {bytes : List ℕ} {next : ℕ} {o : List �
 
 -- one run more, which has room
 pub puts-more : {out : List ℕ} {at : ℕ} {bytes : List ℕ} {next : ℕ} {o : List ℕ} {n : ℕ} {m : List ℕ} (more : List ℕ) → Puts out at bytes next o
-    → at + length bytes + length more ≤ length out → _≡_ {A = ℕ × List ℕ} (n, m) (writtenAt o next more) → Puts out at (bytes ++ more) n m
+    → at + length bytes + length more ≤ length out → Left n m o next more → Puts out at (bytes ++ more) n m
 puts-more more p h e = let b = p .behind in let l = puts-length p in puts-then p (puts-of (omega arith) e)
 
 pub puts-none : (out : List ℕ) (at : ℕ) → at ≤ length out → Puts out at [] at out

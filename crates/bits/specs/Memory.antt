@@ -1,4 +1,4 @@
--- Bytes in lent memory.
+-- What it is to write bytes over lent memory.
 use Prim.Native.Nat.{ℕ, _+_}
 use mathlib.Core.Bool.{cond}
 use mathlib.Core.List.{List, _++_}

@@ -1,33 +1,30 @@
 -- The listing says what is read: crates/claims/specs/Listing.antt. Assumes nothing.
-use Prim.Native.Nat.{ℕ, _<_, _≤_}
-use mathlib.Core.Bool.{Bool}
-use mathlib.Core.List.{List, [], _∷_, _++_}
+use Prim.Native.Nat.{ℕ, _≤_}
+use mathlib.Core.List.{List, [], _∷_}
 use mathlib.Core.Path.{_≡_, refl, sym, ap, _∙_, subst}
 use native.Mathlib.Decide.{decLe}
 use native.Mathlib.Omega.{arith}
-use lib.Dec.{leb}
 use lib.ListN.{length, take, drop}
 use lib.Seq.{take-append-seam}
 use borrow.Author.Tests.{le-leb, lt-leb}
 use denote.Ref.{RefT, now}
 use Rattle.bits.specs.Every.{Every}
-use Rattle.bits.specs.Memory.{over}
 use Rattle.bits.proofs.Memory.{over-front}
 use Rattle.table.specs.Answers.{Answer, given, refused}
 use Rattle.table.specs.Table.{lengthOf}
-use Rattle.table.specs.declared.rules.Direction.{Direction}
 use Rattle.table.specs.declared.rules.Rules.{Rules}
 use Rattle.text.specs.Characters.{ascii}
 use Rattle.text.specs.Decimal.{decimal, digits}
-use Rattle.text.specs.Hex.{IsByte, hexOf}
+use Rattle.text.specs.Hex.{hexOf}
 use Rattle.text.specs.Lines.{joined, text}
 use Rattle.fields.specs.Lists.{tabulate}
 use Rattle.walk.specs.Walk.{Walk, go, walkOf}
-use Rattle.listings.specs.Into.{lengthIn, into}
+use Rattle.listings.specs.Into.{largest, lengthWithin, into}
 use Rattle.listings.specs.Listing.{linesOf, listingOf}
 use Rattle.listings.specs.Told.{toldListing}
-use Rattle.listings.proofs.Telling.{text-fixes-stream}
-use Rattle.claims.specs.Listing.{Lists, Sizes, Written, SaysWhatIsRead, ReadAlike, TextFixes, Example, Shown, ListingsTell, examples}
+use Rattle.listings.proofs.Into.{into-room, into-none}
+use Rattle.listings.proofs.Telling.{text-fixes-walk}
+use Rattle.claims.specs.Listing.{Lists, Sizes, Written, SaysWhatIsRead, TextFixes, Example, Shown, ListingsTell, examples}
 use Rattle.claims.specs.Handing.{ReadAs}
 use Rattle.claims.proofs.Handing as Handing
 use Rattle.claims.proofs.Keeping.{both}
@@ -42,18 +39,16 @@ module _ (rules : Rules) (stream : RefT (List ℕ)) where
       let g = l .admitted .1 .1 in
       ap (λ (x : Answer ℕ). (x, after)) (sym (l .told)) ∙ ap (λ (o : List ℕ). (toldListing (l .answer), o)) (sym (g .1)) ∙ g .0
 
-  sizes : (a : Answer ℕ) → Sizes rules stream a → a ≡ lengthIn 18446744073709551615 all
+  sizes : (a : Answer ℕ) → Sizes rules stream a → a ≡ lengthWithin largest all
   sizes a l = sym (l .told) ∙ l .admitted .1 .1
 
   written-all : Written rules stream all
-  unfolding into lengthIn
+  unfolding lengthWithin
   written-all = record {
-    room = λ out a after l h.
-        let e = both (simp (le-leb (length all) (length (now out)) h) at (lists out a after l)) in
-        (e .0, e .1 ∙ over-front (now out) all);
-    no-room = λ out a after l h. both (simp (lt-leb (length all) (length (now out)) h) at (lists out a after l));
-    sized = λ a l h. simp (le-leb (length all) 18446744073709551615 h) at (sizes a l);
-    too-long = λ a l h. simp (lt-leb (length all) 18446744073709551615 h) at (sizes a l);
+    room = λ out a after l h. let e = both (lists out a after l ∙ into-room all (now out) h) in (e .0, e .1 ∙ over-front (now out) all);
+    no-room = λ out a after l h. both (lists out a after l ∙ into-none all (now out) h);
+    sized = λ a l h. simp (le-leb (length all) largest h) at (sizes a l);
+    too-long = λ a l h. simp (lt-leb (length all) largest h) at (sizes a l);
   }
 
   pub says-what-is-read : SaysWhatIsRead rules stream
@@ -81,9 +76,9 @@ module _ (rules : Rules) (stream : RefT (List ℕ)) where
           absurd (omega arith)
 
 pub text-fixes : TextFixes
-text-fixes rules s t o p n after after' b b' l l' e =
+text-fixes rules s t o p n after after' l l' e =
     let same : walkOf (lengthOf rules) (now s) ≡ walkOf (lengthOf rules) (now t) =
-    text-fixes-stream rules (now s) (now t) b b' (sym (front rules s o n after l) ∙ e ∙ front rules t p n after' l') in
+    text-fixes-walk rules (walkOf (lengthOf rules) (now s)) (walkOf (lengthOf rules) (now t)) (sym (front rules s o n after l) ∙ e ∙ front rules t p n after' l') in
     record {
       cmds = walkOf (lengthOf rules) (now s) .cmds;
       ending = walkOf (lengthOf rules) (now s) .ending;
@@ -105,7 +100,7 @@ all-shown (e ∷ es) d = (shown-by e (d .0), all-shown es (d .1))
 
 defined : Every Defined examples
 unfolding go linesOf text joined decimal digits hexOf ascii tabulate
-defined = (refl, (refl, (refl, (refl, (refl, (refl, (refl, (refl, tt))))))))
+defined = (refl, (refl, (refl, (refl, (refl, (refl, (refl, (refl, (refl, tt)))))))))
 
 pub listings-tell : ListingsTell
 listings-tell = record { says-what-is-read = says-what-is-read; text-fixes = text-fixes; shown = all-shown examples defined }

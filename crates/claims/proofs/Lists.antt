@@ -9,6 +9,7 @@ use lib.Dec.{eqb, lit≤}
 use lib.ListN.{length, getD, take}
 use lib.Seq.{getD-append-add}
 use borrow.Author.Tests.{eqb-true}
+use Rattle.bits.specs.Bits.{Byte}
 use Rattle.bits.specs.Every.{Every}
 use Rattle.table.specs.Table.{Row, rows, sideOf, lengthIn, lengthOf}
 use Rattle.table.specs.declared.rules.Direction.{Direction}
@@ -20,7 +21,7 @@ use Rattle.build.specs.declared.record.Record.{Record}
 use Rattle.lent.specs.Packing.{inSlot}
 use Rattle.lent.specs.Records.{recsOf, itemsOf}
 use Rattle.lent.proofs.Packing.{short-stays, slots-are, slot-same}
-use Rattle.claims.specs.Building.{Five, Byte, StandsFor, EveryListBuilt}
+use Rattle.claims.specs.Building.{Five, StandsFor, EveryListBuilt}
 
 -- ---- a record and a slot of a command
 

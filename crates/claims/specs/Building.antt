@@ -6,6 +6,7 @@ use mathlib.Core.Path.{_≡_}
 use lib.ListN.{length, take, drop}
 use denote.Ref.{RefT, now}
 use contract.Lifetimes.{Lfts}
+use Rattle.bits.specs.Bits.{Byte}
 use Rattle.bits.specs.Every.{Every}
 use Rattle.table.specs.Table.{lengthOf}
 use Rattle.table.specs.declared.rules.Rules.{Rules}
@@ -122,9 +123,6 @@ LengthForBuild Len B = (rules : Rules) (xs : List Item) (before after : List ℕ
 
 -- every list of well-formed commands can be handed to each of the builds: it has packed slots and record structs that stand for it.
 -- Where its payloads are bytes, so are the slots and the records' payloads
-abbrev pub Byte : ℕ → Type 0
-Byte b = b < 256
-
 pub record CanBeBuilt (rules : Rules) (cs : List Cmd) : Type 0 where
   pub slots : List ℕ
   pub packed : StandsFor rules cs (slotsOf slots)
@@ -132,7 +130,7 @@ pub record CanBeBuilt (rules : Rules) (cs : List Cmd) : Type 0 where
   pub records : List Record
   pub structs : StandsFor rules cs (itemsOf records)
   pub five : Every Five records
-  pub record-bytes : Every (λ (c : Cmd). Every Byte (c .body)) cs → Every (λ (r : Record). (r .cid < 256) × Every Byte (r .payload)) records
+  pub record-bytes : Every (λ (c : Cmd). Every Byte (c .body)) cs → Every (λ (r : Record). Byte (r .cid) × Every Byte (r .payload)) records
 
 abbrev pub EveryListBuilt : Type 0
 EveryListBuilt = (rules : Rules) (cs : List Cmd) → WellFormed (lengthOf rules) cs → CanBeBuilt rules cs

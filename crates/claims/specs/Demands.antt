@@ -9,8 +9,8 @@ use Rattle.claims.specs.Building.{Builds}
 use Rattle.claims.specs.ByHand.{ByHand}
 use Rattle.claims.specs.Choosing.{Chooser}
 use Rattle.claims.specs.Examples.{ExamplesHold, Lifted}
-use Rattle.claims.specs.Listing.{ListingsTell}
 use Rattle.claims.specs.Keeping.{RefusalsKeep, MasksTell}
+use Rattle.claims.specs.Listing.{ListingsTell}
 use Rattle.claims.specs.Owning.{OneOwner, NextIsStep}
 
 pub record Demands : Type 2 where
@@ -29,5 +29,5 @@ pub record Demands : Type 2 where
   pub by-hand : ByHand
   -- C1 to C4: where in a frame the commands are
   pub chooser : Lifted Chooser
-  -- L1 to L11: the listing says what is read
+  -- L1 to L9 and L11: the listing says what is read
   pub listings-tell : ListingsTell

@@ -11,9 +11,9 @@ use Rattle.table.specs.declared.rules.Direction.{Direction}
 use Rattle.table.specs.declared.rules.Direction.the-variants.{Down, Up}
 use Rattle.table.specs.declared.rules.Rules.{Rules}
 use Rattle.text.specs.Characters.{ascii}
-use Rattle.text.specs.Hex.{IsByte}
 use Rattle.text.specs.Lines.{text}
 use Rattle.walk.specs.Walk.{Placed, Ending}
+use Rattle.listings.specs.Into.{largest}
 use Rattle.listings.specs.Listing.{linesOf}
 use Rattle.listings.specs.Told.{toldListing}
 use Rattle.listings.specs.declared.ListingAnswer.{ListingAnswer}
@@ -42,8 +42,8 @@ pub record Written (rules : Rules) (stream : RefT (List ℕ)) (t : List ℕ) : T
       → (a ≡ given (length t)) × (after ≡ t ++ drop (length t) (now out))
   pub no-room : (out : RefT (List ℕ)) (a : Answer ℕ) (after : List ℕ) → Lists rules stream out a after → length (now out) < length t
       → (a ≡ refused 4) × (after ≡ now out)
-  pub sized : (a : Answer ℕ) → Sizes rules stream a → length t ≤ 18_446_744_073_709_551_615 → a ≡ given (length t)
-  pub too-long : (a : Answer ℕ) → Sizes rules stream a → 18_446_744_073_709_551_615 < length t → a ≡ refused 4
+  pub sized : (a : Answer ℕ) → Sizes rules stream a → length t ≤ largest → a ≡ given (length t)
+  pub too-long : (a : Answer ℕ) → Sizes rules stream a → largest < length t → a ≡ refused 4
 
 -- L1: what is written is the lines of the commands that every entry hands out of the stream, and the line of the ending that it tells. So a stop is
 -- no refusal (F3)
@@ -62,7 +62,7 @@ pub record ReadAlike (rules : Rules) (s t : RefT (List ℕ)) : Type 2 where
 
 abbrev pub TextFixes : Type 2
 TextFixes =
-    (rules : Rules) (s t o p : RefT (List ℕ)) (n : ℕ) (after after' : List ℕ) → Every IsByte (now s) → Every IsByte (now t)
+    (rules : Rules) (s t o p : RefT (List ℕ)) (n : ℕ) (after after' : List ℕ)
     → Lists rules s o (given n) after → Lists rules t p (given n) after' → take n after ≡ take n after' → ReadAlike rules s t
 
 -- ---- examples: a stream of a direction, and its text
@@ -79,6 +79,8 @@ abbrev pub examples : List Example
 examples =
     -- P16, the request's
     example Down (0x02 ∷ 0x0A ∷ 0x03 ∷ 0x03 ∷ 0x51 ∷ 0x07 ∷ 0x00 ∷ 0x01 ∷ 0x08 ∷ []) "0\tD\t02\tLinkCheckAns\t0A03\n3\tD\t03\tLinkADRReq\t51070001\t3\n8\tstop\t2\n" ∷
+    -- a mask with a channel in each byte
+    example Down (0x03 ∷ 0x00 ∷ 0x01 ∷ 0x80 ∷ 0x00 ∷ []) "0\tD\t03\tLinkADRReq\t00018000\t2\n5\tend\n" ∷
     -- P1 to P6
     example Up [] "0\tend\n" ∷
     example Up (0x02 ∷ 0x03 ∷ 0x00 ∷ []) "0\tU\t02\tLinkCheckReq\t-\n1\tU\t03\tLinkADRAns\t00\n3\tend\n" ∷

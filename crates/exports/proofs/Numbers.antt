@@ -1,5 +1,5 @@
 -- A listing's one number tells its answer: no text is as short as the refusal's number says. Assumes nothing.
-use Prim.Native.Nat.{ℕ, _+_, _≤_}
+use Prim.Native.Nat.{ℕ, _≤_}
 use mathlib.Core.Bool.{Bool, true, false, cond}
 use mathlib.Core.List.{List}
 use mathlib.Core.Path.{_≡_, refl, sym, ap, _∙_}
@@ -9,7 +9,7 @@ use lib.ListN.{length}
 use Rattle.bits.specs.Memory.{over}
 use Rattle.table.specs.Answers.{Answer, given, refused}
 use Rattle.payloads.specs.Commands.{sentDown}
-use Rattle.listings.specs.Into.{lengthIn, into}
+use Rattle.listings.specs.Into.{lengthWithin, into}
 use Rattle.listings.specs.Listing.{listingOf}
 use Rattle.listings.proofs.Walking.{six-at-least}
 use Rattle.exports.specs.Listing.{number, ListingTellsApart}
@@ -24,16 +24,16 @@ told-apart m n h k true false e = absurd (omega arith)
 told-apart m n h k false true e = absurd (omega arith)
 told-apart m n h k false false e = refl
 
-measured-apart : (s t : List ℕ) (m n : ℕ) → number (lengthIn m (listingOf sentDown s)) ≡ number (lengthIn n (listingOf sentDown t))
-    → lengthIn m (listingOf sentDown s) ≡ lengthIn n (listingOf sentDown t)
-unfolding lengthIn
+measured-apart : (s t : List ℕ) (m n : ℕ) → number (lengthWithin m (listingOf sentDown s)) ≡ number (lengthWithin n (listingOf sentDown t))
+    → lengthWithin m (listingOf sentDown s) ≡ lengthWithin n (listingOf sentDown t)
+unfolding lengthWithin
 measured-apart s t m n e =
     told-apart (length (listingOf sentDown s)) (length (listingOf sentDown t)) (six-at-least sentDown s) (six-at-least sentDown t)
     (leb (length (listingOf sentDown s)) m) (leb (length (listingOf sentDown t)) n) e
 
 -- the writer answers as one who only measures, with memory's length for the room
-as-measured : (t out : List ℕ) → into t out .0 ≡ lengthIn (length out) t
-unfolding into lengthIn
+as-measured : (t out : List ℕ) → into t out .0 ≡ lengthWithin (length out) t
+unfolding into lengthWithin
 as-measured t out = by (leb (length t) (length out))
   where
     by : (b : Bool) → (cond {A = Answer ℕ × List ℕ} b (given (length t), over out 0 t) (refused 4, out)) .0 ≡ answer (length t) b

@@ -1,10 +1,10 @@
--- What the listing's writer answers, as one number.
+-- What the listing's two entries answer, as one number.
 use Prim.Native.Nat.{ℕ}
 use mathlib.Core.List.{List}
 use mathlib.Core.Path.{_≡_}
 use Rattle.table.specs.Answers.{Answer, given, refused}
 use Rattle.payloads.specs.Commands.{sentDown}
-use Rattle.listings.specs.Into.{lengthIn, into}
+use Rattle.listings.specs.Into.{lengthWithin, into}
 use Rattle.listings.specs.Listing.{listingOf}
 
 -- the text's length, or the refusal's number
@@ -20,5 +20,5 @@ withNumber a = (number (a .0), a .1)
 pub record ListingTellsApart : Type 0 where
   pub written : (s t o p : List ℕ) → number (into (listingOf sentDown s) o .0) ≡ number (into (listingOf sentDown t) p .0)
       → into (listingOf sentDown s) o .0 ≡ into (listingOf sentDown t) p .0
-  pub measured : (s t : List ℕ) (m n : ℕ) → number (lengthIn m (listingOf sentDown s)) ≡ number (lengthIn n (listingOf sentDown t))
-      → lengthIn m (listingOf sentDown s) ≡ lengthIn n (listingOf sentDown t)
+  pub measured : (s t : List ℕ) (m n : ℕ) → number (lengthWithin m (listingOf sentDown s)) ≡ number (lengthWithin n (listingOf sentDown t))
+      → lengthWithin m (listingOf sentDown s) ≡ lengthWithin n (listingOf sentDown t)

@@ -7,7 +7,7 @@ use table::Direction;
 use table::Rules;
 ghost use mathlib.Core.Path.{_≡_};
 ghost use Rattle.payloads.specs.Commands.{sentDown};
-ghost use Rattle.listings.specs.Into.{lengthIn, into};
+ghost use Rattle.listings.specs.Into.{largest, lengthWithin, into};
 ghost use Rattle.listings.specs.Listing.{listingOf};
 ghost use Rattle.listings.specs.Told.{toldListing};
 ghost use Rattle.exports.specs.Listing.{number as Listing·number, withNumber};
@@ -24,7 +24,7 @@ fn number(answer: ListingAnswer) -> u64
 // The length alone, to size the memory by.
 #[no_mangle]
 pub extern "C" fn nazhdivar_listing_len(stream: &[u8]) -> u64
-    ensures { λ r. ⌜ r ≡ Listing·number (lengthIn 18446744073709551615 (listingOf sentDown (now (stream .entry)))) ⌝ }
+    ensures { λ r. ⌜ r ≡ Listing·number (lengthWithin largest (listingOf sentDown (now (stream .entry)))) ⌝ }
 {
     let rules = Rules {
         direction: Direction::Down,

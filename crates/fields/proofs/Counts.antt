@@ -12,7 +12,7 @@ use lib.Count.{ones, ones-step, ones-cat}
 use lib.Dec.{eqb}
 use lib.ListN.{length}
 use lib.Pow.{shr-shr}
-use Rattle.bits.specs.Bits.{bitOn, bitOf}
+use Rattle.bits.specs.Bits.{Byte, bitOn, bitOf}
 use Rattle.bits.specs.Every.{Every}
 use Rattle.fields.specs.Lists.{tabulate, lowFirst}
 use Rattle.fields.specs.Mask.{channelOn, howMany, channelsOn}
@@ -57,8 +57,8 @@ other-bytes b m k =
     let r : (8 + k) % 8 ≡ k % 8 = omega arith in
     rw (q, r)
 
--- the channels that are on
-pub on-are-ones : (m : List ℕ) → Every (λ b. b < 256) m → channelsOn m ≡ ones (lowFirst m)
+-- as many channels are on as the number has ones
+pub on-are-ones : (m : List ℕ) → Every Byte m → channelsOn m ≡ ones (lowFirst m)
 unfolding tabulate ones
 on-are-ones [] h = refl
 on-are-ones (b ∷ m) h =

@@ -11,9 +11,8 @@ ghost use mathlib.Core.Path.{_≡_};
 ghost use Prim.Native.Nat.{_≤_};
 ghost use lib.ListN.{length};
 ghost use Rattle.io.specs.Counts.{Counts};
-ghost use Rattle.bits.specs.Memory.{writtenAt};
 ghost use Rattle.listings.specs.Listing.{listingOf};
-ghost use Rattle.listing.specs.Program.{badInput, printedFor};
+ghost use Rattle.listing.specs.Program.{atFront, badInput, printedFor};
 
 // Reads to the input's end or the buffer's, however the pieces come, and answers how many bytes there were: none where a read failed, so
 // that no part of an input is taken for the whole.
@@ -36,15 +35,16 @@ fn read_input(buf: &mut [u8]) -> usize
 }
 
 fn put_bad(out: &mut [u8]) -> usize
-    ensures { λ r. ⌜ (r, now (out .exit)) ≡ writtenAt (now (out .entry)) 0 badInput ⌝ }
+    requires { ⌜ 28595 ≤ length (now out) ⌝ }
+    ensures { λ r. ⌜ (r, now (out .exit)) ≡ atFront badInput (now (out .entry)) ⌝ }
 {
     put_bytes(out, 0, b"bad input\n")
 }
 
-// The longest text of 1,024 bytes has 28,595 characters, for which there is room, so no text is refused.
+// The longest text of a stream of 1,024 bytes has 28,595 characters, for which there is room, so no text is refused.
 fn put_listing(rules: Rules, stream: &[u8], out: &mut [u8]) -> usize
     requires { ⌜ (length (now stream) ≤ 1024) × (28595 ≤ length (now out)) ⌝ }
-    ensures { λ r. ⌜ (r, now (out .exit)) ≡ writtenAt (now (out .entry)) 0 (listingOf rules (now (stream .entry))) ⌝ }
+    ensures { λ r. ⌜ (r, now (out .exit)) ≡ atFront (listingOf rules (now (stream .entry))) (now (out .entry)) ⌝ }
 {
     let answer = write_listing(rules, stream, out);
     match answer {
@@ -56,7 +56,7 @@ fn put_listing(rules: Rules, stream: &[u8], out: &mut [u8]) -> usize
 // Puts what is printed for an input at the front of out, and answers how many bytes it has.
 fn answer(input: &[u8], out: &mut [u8]) -> usize
     requires { ⌜ 28595 ≤ length (now out) ⌝ }
-    ensures { λ r. ⌜ (r, now (out .exit)) ≡ writtenAt (now (out .entry)) 0 (printedFor (now (input .entry))) ⌝ }
+    ensures { λ r. ⌜ (r, now (out .exit)) ≡ atFront (printedFor (now (input .entry))) (now (out .entry)) ⌝ }
 {
     if input.len() == 0 {
         return put_bad(out);

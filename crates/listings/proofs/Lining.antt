@@ -4,7 +4,7 @@ use Prim.Native.String.{String}
 use mathlib.Core.Bool.{Bool, true, false, cond}
 use mathlib.Core.List.{List, [], _∷_, _++_, append-assoc}
 use mathlib.Core.Option.{Option, some}
-use mathlib.Core.Path.{_≡_, refl, sym, ap, _∙_, subst}
+use mathlib.Core.Path.{_≡_, refl, sym, ap, _∙_}
 use native.Mathlib.Omega.{arith}
 use lib.Dec.{eqb, leb}
 use lib.ListN.{length, length-append, take, drop, length-take, length-drop}
@@ -15,8 +15,7 @@ use Rattle.table.specs.declared.rules.Direction.{Direction}
 use Rattle.table.specs.declared.rules.Direction.the-variants.{Down, Up}
 use Rattle.table.specs.declared.rules.Rules.{Rules}
 use Rattle.table.specs.Table.{Row, rows, sideOf, lengthIn, lengthOf, nameIn, nameOf}
-use Rattle.table.proofs.Lengths.{at-most-five}
-use Rattle.fields.specs.Mask.{channelOn, howMany, statusesOf}
+use Rattle.fields.specs.Mask.{channelOn, channelsOn, howMany, statusesOf}
 use Rattle.fields.specs.Places.{bytesAt, LinkADRReq·channelMask}
 use Rattle.fields.proofs.Lists.{length-tabulate}
 use Rattle.text.specs.Characters.{ascii}
@@ -25,9 +24,10 @@ use Rattle.text.specs.Hex.{hexByte, hexOf}
 use Rattle.text.specs.Lines.{joined, line}
 use Rattle.text.proofs.Decimals.{decimal-at-most}
 use Rattle.text.proofs.Hexes.{hex-long}
+use Rattle.text.proofs.Naming.{namesPass, every-name}
 use Rattle.walk.specs.Walk.{placed, end, stop}
-use Rattle.listings.specs.Listing.{letterOf, payloadField, commandLine, lastLine}
-use Rattle.listings.specs.Passes.{bodyAt, before, behind, channels, isCounted, Stands}
+use Rattle.listings.specs.Listing.{channels, letterOf, payloadField, commandLine, lastLine}
+use Rattle.listings.specs.Passes.{bodyAt, before, behind, isCounted}
 
 -- ---- which command has a count
 
@@ -107,8 +107,8 @@ unfolding ascii
 payload-long [] = refl
 payload-long (b ∷ bs) = hex-long (b ∷ bs) ∙ sym (simp (ne-eqb (length (b ∷ bs)) 0 (λ e. omega arith)))
 
-pub body-long : {rules : Rules} {s : List ℕ} {at cid len : ℕ} → Stands rules s at cid len → length (bodyAt s at len) ≡ len
-body-long {s = s} {at = at} {len = len} w = let f = w .fits in length-take-le len (drop (at + 1) s) (simp length-drop (omega arith))
+pub body-long : (s : List ℕ) (at len : ℕ) → at + 1 + len ≤ length s → length (bodyAt s at len) ≡ len
+body-long s at len h = length-take-le len (drop (at + 1) s) (simp length-drop (omega arith))
 
 pub command-long : (rules : Rules) (at cid : ℕ) (body : List ℕ) → length (line (commandLine rules (placed at cid body)))
     ≡ length (decimal at) + 7 + length (ascii (nameOf rules cid)) + length (payloadField body) + length (behind (isCounted rules cid) (channels body))
@@ -124,39 +124,21 @@ stop-long number at =
     length-append (decimal at) (9 ∷ joined (ascii "stop") (decimal number ∷ []))
     ∙ simp length-append (omega arith)
 
--- ---- bounds: a number of 64 bits, and a name
+-- ---- bounds: a number of 64 bits has 20 digits at most, and a name 16 letters
 
 pub digits-few : (n : ℕ) → n < 2 ^ 64 → length (decimal n) ≤ 20
 digits-few n h = decimal-at-most 19 n (omega arith)
 
--- that no name of these rows is longer, by computing
-unfoldable shortIn : Direction → List Row → Bool
-unfolding ascii
-shortIn d [] = true
-shortIn d (r ∷ rs) = cond (leb (length (ascii (sideOf d (r .down) (r .up)))) 16) (shortIn d rs) false
-
-short-name : (d : Direction) (rs : List Row) (c : ℕ) → shortIn d rs ≡ true → length (ascii (nameIn rs d c)) ≤ 16
-unfolding ascii shortIn
-short-name d [] c h = omega arith
-short-name d (r ∷ rs) c h = by (leb (length (ascii (sideOf d (r .down) (r .up)))) 16) refl h (short-name d rs c)
-  where
-    pick : (b : Bool) → length (ascii (sideOf d (r .down) (r .up))) ≤ 16 → length (ascii (nameIn rs d c)) ≤ 16
-        → length (ascii (cond b (sideOf d (r .down) (r .up)) (nameIn rs d c))) ≤ 16
-    pick true x y = x
-    pick false x y = y
-
-    by : (b : Bool) → leb (length (ascii (sideOf d (r .down) (r .up)))) 16 ≡ b → cond b (shortIn d rs) false ≡ true
-        → (shortIn d rs ≡ true → length (ascii (nameIn rs d c)) ≤ 16) → length (ascii (nameIn (r ∷ rs) d c)) ≤ 16
-    by true e h rest = pick (eqb c (r .cid)) (leb-true _ _ e) (rest h)
-    by false e h rest = let no-way : _≡_ {A = ℕ} 0 1 = cc in absurd (omega arith)
-
-short-by : (d : Direction) → shortIn d rows ≡ true
-unfolding ascii shortIn
+short-by : (d : Direction) → namesPass (λ (n : String). leb (length (ascii n)) 16) d rows ≡ true
+unfolding ascii namesPass
 short-by Down = refl
 short-by Up = refl
 
 pub name-few : (rules : Rules) (c : ℕ) → length (ascii (nameOf rules c)) ≤ 16
-name-few rules c = short-name (rules .direction) rows c (short-by (rules .direction))
+unfolding ascii
+name-few rules c =
+    every-name (λ (n : String). length (ascii n) ≤ 16) (λ (n : String). leb (length (ascii n)) 16) (λ n e. leb-true (length (ascii n)) 16 e) (omega arith)
+    (rules .direction) rows c (short-by (rules .direction))
 
 -- ---- what stands behind a payload
 
@@ -172,11 +154,11 @@ on-few [] = omega arith
 on-few (true ∷ bs) = let h = on-few bs in omega arith
 on-few (false ∷ bs) = let h = on-few bs in omega arith
 
-pub channels-few : (body : List ℕ) → channels body ≤ 16
-channels-few body =
-    let m : List ℕ = bytesAt LinkADRReq·channelMask body in
-    let two : length (bytesAt LinkADRReq·channelMask body) ≤ 2 = simp length-take (omega arith) in
-    omega (arith, on-few (statusesOf (8 * length (bytesAt LinkADRReq·channelMask body)) (bytesAt LinkADRReq·channelMask body)), length-tabulate (8 * length (bytesAt LinkADRReq·channelMask body)) (channelOn (bytesAt LinkADRReq·channelMask body)))
+channels-few : (body : List ℕ) → channels body ≤ 16
+channels-few body = by (bytesAt LinkADRReq·channelMask body) (simp length-take (omega arith))
+  where
+    by : (m : List ℕ) → length m ≤ 2 → channelsOn m ≤ 16
+    by m h = omega (arith, on-few (statusesOf (8 * length m) m), length-tabulate (8 * length m) (channelOn m))
 
 pub behind-few : (b : Bool) (body : List ℕ) → length (behind b (channels body)) ≤ 4
 behind-few true body = omega (arith, counted-long (channels body) refl, decimal-at-most 1 (channels body) (let h = channels-few body in omega arith))
@@ -195,16 +177,16 @@ pub dash-is : (s : List ℕ) (at : ℕ) {len : ℕ} → len ≡ 0 → 45 ∷ [] 
 unfolding ascii
 dash-is s at e = sym (ap (λ (k : ℕ). payloadField (bodyAt s at k)) e)
 
-in-hex : (b : List ℕ) → 1 ≤ length b → hexOf b ≡ payloadField b
-in-hex [] h = absurd (omega arith)
-in-hex (x ∷ xs) h = refl
+hex-shown : (b : List ℕ) → 1 ≤ length b → hexOf b ≡ payloadField b
+hex-shown [] h = absurd (omega arith)
+hex-shown (x ∷ xs) h = refl
 
 pub hex-is : (s : List ℕ) (at len : ℕ) → (len ≡ 0 → ⊥) → at + 1 + len ≤ length s → hexOf (take (at + 1 + len - (at + 1)) (drop (at + 1) s)) ≡ payloadField (bodyAt s at len)
 hex-is s at len n h =
     let e : at + 1 + len - (at + 1) ≡ len = omega arith in
-    let l : length (bodyAt s at len) ≡ len = length-take-le len (drop (at + 1) s) (simp length-drop (omega arith)) in
+    let l = body-long s at len h in
     let some : 1 ≤ len = nonzero len n in
-    ap (λ (k : ℕ). hexOf (bodyAt s at k)) e ∙ in-hex (bodyAt s at len) (omega arith)
+    ap (λ (k : ℕ). hexOf (bodyAt s at k)) e ∙ hex-shown (bodyAt s at len) (omega arith)
   where
     nonzero : (k : ℕ) → (k ≡ 0 → ⊥) → 1 ≤ k
     nonzero zero f = absurd (f refl)

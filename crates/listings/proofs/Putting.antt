@@ -1,12 +1,12 @@
 -- A line written piece by piece. Assumes nothing.
 use Prim.Native.Nat.{ℕ, _+_, _≤_}
-use mathlib.Core.Bool.{Bool, true, cond}
+use mathlib.Core.Bool.{Bool, true}
 use mathlib.Core.List.{List, [], _∷_, _++_, append-assoc}
-use mathlib.Core.Path.{_≡_, refl, sym, ap, _∙_, subst}
+use mathlib.Core.Path.{_≡_, sym, ap, _∙_, subst}
 use native.Mathlib.Omega.{arith}
 use lib.ListN.{length, length-append}
 use Rattle.bits.specs.Memory.{writtenAt}
-use Rattle.bits.proofs.Memory.{Puts, puts-of, puts-more, puts-length, written-of}
+use Rattle.bits.proofs.Memory.{Left, Puts, puts-of, puts-more, puts-length, written-of}
 use Rattle.table.specs.declared.rules.Rules.{Rules}
 use Rattle.table.specs.Table.{nameOf}
 use Rattle.text.specs.Characters.{ascii}
@@ -14,13 +14,9 @@ use Rattle.text.specs.Decimal.{decimal}
 use Rattle.text.specs.Hex.{hexByte}
 use Rattle.text.specs.Lines.{joined, line}
 use Rattle.walk.specs.Walk.{placed, end, stop}
-use Rattle.listings.specs.Listing.{letterOf, payloadField, commandLine, lastLine}
-use Rattle.listings.specs.Passes.{before, behind, channels, isCounted}
+use Rattle.listings.specs.Listing.{channels, letterOf, payloadField, commandLine, lastLine}
+use Rattle.listings.specs.Passes.{before, behind, isCounted}
 use Rattle.listings.proofs.Lining.{before-long, command-long, command-parts, counted-long, end-long, letter-long, stop-long}
-
--- `(n, m)` is what writing leaves: the offset behind, and memory
-abbrev Left : ℕ → List ℕ → List ℕ → ℕ → List ℕ → Type 0
-Left n m out at bytes = _≡_ {A = ℕ × List ℕ} (n, m) (writtenAt out at bytes)
 
 module _ (rules : Rules) (at cid : ℕ) (out : List ℕ) (to : ℕ) where
   pub before-put : {c : ℕ} {n1 n2 n3 n4 n5 n6 n7 n8 : ℕ} {o1 o2 o3 o4 o5 o6 o7 o8 : List ℕ} → to + length (before rules at cid) ≤ length out
@@ -47,12 +43,12 @@ module _ (rules : Rules) (at cid : ℕ) (out : List ℕ) (to : ℕ) where
       let p8 = puts-more (9 ∷ []) p7 (simp length-append (omega arith)) e8 in
       written-of p8
 
-  module _ (body : List ℕ) (h : to + length (line (commandLine rules (placed at cid body))) ≤ length out) {n1 : ℕ} {o1 : List ℕ} (e1 : Left n1 o1 out to (before rules at cid)) where
-    pub before-room : to + length (before rules at cid) ≤ length out
-    before-room = omega (arith, before-long rules at cid, command-long rules at cid body)
+  pub before-room : (body : List ℕ) → to + length (line (commandLine rules (placed at cid body))) ≤ length out → to + length (before rules at cid) ≤ length out
+  before-room body h = omega (arith, before-long rules at cid, command-long rules at cid body)
 
+  module _ (body : List ℕ) (h : to + length (line (commandLine rules (placed at cid body))) ≤ length out) {n1 : ℕ} {o1 : List ℕ} (e1 : Left n1 o1 out to (before rules at cid)) where
     first : Puts out to (before rules at cid) n1 o1
-    first = puts-of before-room e1
+    first = puts-of (before-room body h) e1
 
     module _ {n2 : ℕ} {o2 : List ℕ} (e2 : Left n2 o2 o1 n1 (payloadField body)) where
       second : Puts out to (before rules at cid ++ payloadField body) n2 o2

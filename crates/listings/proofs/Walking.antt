@@ -1,40 +1,28 @@
 -- The text of a walk from an offset on, told from the step there. Assumes nothing.
 use Prim.Native.Nat.{ℕ, _+_, _-_, _<_, _≤_}
-use mathlib.Core.Bool.{Bool, true, false, cond}
-use mathlib.Core.List.{List, [], _∷_, _++_, append-nil, append-assoc}
+use mathlib.Core.List.{List, [], _++_, append-nil, append-assoc}
 use mathlib.Core.Option.{some}
-use mathlib.Core.Path.{_≡_, refl, sym, ap, ap₂, _∙_, subst}
+use mathlib.Core.Path.{_≡_, refl, sym, ap, _∙_, subst}
 use native.Mathlib.Numerals.{add-one}
 use native.Mathlib.Omega.{arith}
-use lib.Dec.{leb}
-use lib.ListN.{length, getD, take, drop, length-append}
+use lib.ListN.{length, take, drop, length-append}
 use lib.Seq.{drop-cons, take-append-seam}
-use borrow.Author.Tests.{le-leb, lt-leb, leb-true}
-use Rattle.bits.specs.Memory.{over, writtenAt}
-use Rattle.bits.proofs.Memory.{Puts, puts-of, puts-length, puts-more, puts-none, written-of}
+use Rattle.bits.proofs.Memory.{Left, Puts, puts-length, puts-more, puts-none, written-of}
 use Rattle.table.specs.Answers.{Answer, given, refused}
 use Rattle.table.specs.declared.rules.Rules.{Rules}
 use Rattle.table.specs.Table.{lengthOf}
 use Rattle.text.specs.Lines.{Line, line, text}
 use Rattle.text.proofs.Decimals.{decimal-some}
+use Rattle.text.proofs.Lines.{tail-is}
 use Rattle.walk.specs.Step.{Found, ended, command, stopped, firstOf, foundAt, Heading, heading, inNumbers, stepAt}
-use Rattle.walk.specs.Walk.{Cmd, Ending, end, stop, placeOf, Walk, walkFrom}
+use Rattle.walk.specs.Walk.{Cmd, Ending, end, stop, placeOf, walkFrom}
 use Rattle.walk.proofs.Laws.{ends-at, walk-ends}
 use Rattle.walk.proofs.Steps.{Goes, Here, past, ends, goes, here, walk-goes, found-ends, found-goes, found-command, command-told}
-use Rattle.listings.specs.Into.{lengthIn, into}
+use Rattle.listings.specs.Into.{lengthWithin}
 use Rattle.listings.specs.Listing.{linesOf, commandLine, lastLine, printed, listingOf}
 use Rattle.listings.specs.Passes.{bodyAt, stepLine, Stands}
+use Rattle.listings.proofs.Into.{too-long, fits-in}
 use Rattle.listings.proofs.Lining.{command-long, end-long, stop-long}
-
--- ---- a text's length, and its room
-
-pub too-long : (room : ℕ) (t : List ℕ) → room < length t → refused 4 ≡ lengthIn room t
-unfolding lengthIn
-too-long room t h = simp (lt-leb (length t) room h)
-
-pub fits-in : (room : ℕ) (t : List ℕ) {n : ℕ} → n ≡ length t → length t ≤ room → given n ≡ lengthIn room t
-unfolding lengthIn
-fits-in room t e h = simp (le-leb (length t) room h) (ap given e)
 
 module _ (rules : Rules) (s : List ℕ) where
   -- the text of the walk from an offset on
@@ -57,9 +45,6 @@ module _ (rules : Rules) (s : List ℕ) where
       let e : drop (at + 1) s ≡ c .body ++ drop next s =
       ap (λ (k : ℕ). drop k s) (add-one at) ∙ tail-is (sym (drop-cons s at 0 (omega arith)) ∙ g .bytes) in
       ap (take (length (c .body))) e ∙ take-append-seam (c .body) (drop next s)
-    where
-      tail-is : {a b : ℕ} {t u : List ℕ} → a ∷ t ≡ b ∷ u → t ≡ u
-      tail-is e = cc
 
   line-is : {at next : ℕ} {c : Cmd} → Goes (lengthOf rules) s at c next
       → stepLine rules s at (inNumbers (given (command c next))) ≡ commandLine rules (record { at = at; cmd = c })
@@ -121,10 +106,10 @@ module _ (rules : Rules) (s : List ℕ) where
     summed-none = record { within = omega arith; small = omega arith; whole = omega arith }
 
     module _ {at sum n : ℕ} (w : Summed at sum) {x : Answer (Found Heading)} (e : x ≡ stepAt (lengthOf rules) s at) (l : n ≡ length (line (stepLine rules s at x))) where
-      pub summed-over : room - sum < n → refused 4 ≡ lengthIn room (listingOf rules s)
+      pub summed-over : room - sum < n → refused 4 ≡ lengthWithin room (listingOf rules s)
       summed-over h = let a = w .small in too-long room (listingOf rules s) (omega (arith, w .whole, rest-long at (w .within) e))
 
-      pub summed-last : restAfter x ≡ [] → n ≤ room - sum → given (sum + n) ≡ lengthIn room (listingOf rules s)
+      pub summed-last : restAfter x ≡ [] → n ≤ room - sum → given (sum + n) ≡ lengthWithin room (listingOf rules s)
       summed-last z h =
           let a = w .small in
           let all : sum + n ≡ length (listingOf rules s) = omega (arith, w .whole, rest-long at (w .within) e, ap length z) in
@@ -138,81 +123,54 @@ module _ (rules : Rules) (s : List ℕ) where
 
   module _ (out : List ℕ) where
     -- the lines of the commands before an offset are written, and all have room
-    pub record Wrote (at to : ℕ) (o : List ℕ) : Type 0 where
+    pub record Listed (at to : ℕ) (o : List ℕ) : Type 0 where
       pub room : length (listingOf rules s) ≤ length out
       pub front : List ℕ
       pub within : at ≤ length s
       pub whole : listingOf rules s ≡ front ++ rest at
       pub puts : Puts out 0 front to o
 
-    pub wrote-none : length (listingOf rules s) ≤ length out → Wrote 0 0 out
-    wrote-none h = record { room = h; front = []; within = omega arith; whole = refl; puts = puts-none out 0 (omega arith) }
+    pub listed-none : length (listingOf rules s) ≤ length out → Listed 0 0 out
+    listed-none h = record { room = h; front = []; within = omega arith; whole = refl; puts = puts-none out 0 (omega arith) }
 
-    module _ {at to : ℕ} {o : List ℕ} (w : Wrote at to o) {x : Answer (Found Heading)} (e : x ≡ stepAt (lengthOf rules) s at) where
+    module _ {at to : ℕ} {o : List ℕ} (w : Listed at to o) {x : Answer (Found Heading)} (e : x ≡ stepAt (lengthOf rules) s at) where
       -- the next line has room
-      pub wrote-room : to + length (line (stepLine rules s at x)) ≤ length o
-      wrote-room =
+      pub listed-room : to + length (line (stepLine rules s at x)) ≤ length o
+      listed-room =
           let b = w .puts .behind in
           let r = w .room in
           omega (arith, puts-length (w .puts), ap length (w .whole), length-append (w .front) (rest at), rest-long at (w .within) e)
 
       -- and is written
-      pub wrote-line : {n : ℕ} {m : List ℕ} → _≡_ {A = ℕ × List ℕ} (n, m) (writtenAt o to (line (stepLine rules s at x)))
+      pub listed-line : {n : ℕ} {m : List ℕ} → Left n m o to (line (stepLine rules s at x))
           → Puts out 0 (w .front ++ line (stepLine rules s at x)) n m
-      wrote-line p =
+      listed-line p =
           let b = w .puts .behind in
-          puts-more (line (stepLine rules s at x)) (w .puts) (omega (arith, puts-length (w .puts), wrote-room)) p
+          puts-more (line (stepLine rules s at x)) (w .puts) (omega (arith, puts-length (w .puts), listed-room)) p
 
       line-whole : listingOf rules s ≡ (w .front ++ line (stepLine rules s at x)) ++ restAfter x
       line-whole =
           w .whole ∙ ap (λ (l : List ℕ). w .front ++ l) (rest-by at (w .within) e)
           ∙ sym (append-assoc (w .front) (line (stepLine rules s at x)) (restAfter x))
 
-      pub wrote-last : restAfter x ≡ [] → {n : ℕ} {m : List ℕ} → _≡_ {A = ℕ × List ℕ} (n, m) (writtenAt o to (line (stepLine rules s at x)))
-          → _≡_ {A = ℕ × List ℕ} (n, m) (writtenAt out 0 (listingOf rules s))
-      wrote-last z {n} {m} p =
+      pub listed-last : restAfter x ≡ [] → {n : ℕ} {m : List ℕ} → Left n m o to (line (stepLine rules s at x))
+          → Left n m out 0 (listingOf rules s)
+      listed-last z {n} {m} p =
           let all : listingOf rules s ≡ w .front ++ line (stepLine rules s at x) =
           line-whole ∙ ap (λ (l : List ℕ). (w .front ++ line (stepLine rules s at x)) ++ l) z ∙ append-nil (w .front ++ line (stepLine rules s at x)) in
-          written-of (subst (λ (t : List ℕ). Puts out 0 t n m) (sym all) (wrote-line p))
+          written-of (subst (λ (t : List ℕ). Puts out 0 t n m) (sym all) (listed-line p))
 
-    pub wrote-next : {at to : ℕ} {o : List ℕ} (w : Wrote at to o) {h : Heading} {next : ℕ} → given (command h next) ≡ stepAt (lengthOf rules) s at
-        → next ≤ length s → {n : ℕ} {m : List ℕ} → _≡_ {A = ℕ × List ℕ} (n, m) (writtenAt o to (line (stepLine rules s at (given (command h next))))) → Wrote next n m
-    wrote-next {at} w {h} {next} e g p = record {
+    pub listed-next : {at to : ℕ} {o : List ℕ} (w : Listed at to o) {h : Heading} {next : ℕ} → given (command h next) ≡ stepAt (lengthOf rules) s at
+        → next ≤ length s → {n : ℕ} {m : List ℕ} → Left n m o to (line (stepLine rules s at (given (command h next)))) → Listed next n m
+    listed-next {at} w {h} {next} e g p = record {
       room = w .room;
       front = w .front ++ line (stepLine rules s at (given (command h next)));
       within = g;
       whole = line-whole w e;
-      puts = wrote-line w e p;
+      puts = listed-line w e p;
     }
 
--- ---- a text that is measured, and then written
-
-module _ (t out : List ℕ) where
-  -- a refusal says that there is no room
-  pub into-refused : {a : Answer ℕ} {n : ℕ} → a ≡ lengthIn (length out) t → a ≡ refused n → (refused n, out) ≡ into t out
-  unfolding lengthIn into
-  into-refused {a} {n} p q = by (leb (length t) (length out)) (sym q ∙ p)
-    where
-      by : (b : Bool) → refused n ≡ cond b (given (length t)) (refused 4)
-          → _≡_ {A = Answer ℕ × List ℕ} (refused n, out) (cond b (given (length t), over out 0 t) (refused 4, out))
-      by true e = let no-way : _≡_ {A = ℕ} 0 1 = cc in absurd (omega arith)
-      by false e = ap (λ (x : Answer ℕ). (x, out)) e
-
-  pub fits-of : {a : Answer ℕ} {n : ℕ} → a ≡ lengthIn (length out) t → a ≡ given n → length t ≤ length out
-  unfolding lengthIn
-  fits-of {a} {n} p q = by (leb (length t) (length out)) refl (sym q ∙ p)
-    where
-      by : (b : Bool) → leb (length t) (length out) ≡ b → given n ≡ cond b (given (length t)) (refused 4) → length t ≤ length out
-      by true l e = leb-true (length t) (length out) l
-      by false l e = let no-way : _≡_ {A = ℕ} 0 1 = cc in absurd (omega arith)
-
-  pub into-written : length t ≤ length out → {n : ℕ} {o : List ℕ} → _≡_ {A = ℕ × List ℕ} (n, o) (writtenAt out 0 t) → (given n, o) ≡ into t out
-  unfolding into
-  into-written h {n} {o} e =
-      let p = puts-of (omega arith) e in
-      simp (le-leb (length t) (length out) h) (ap₂ (λ (k : ℕ) (x : List ℕ). (given k, x)) (let b = p .behind in omega arith) (p .memory))
-
--- ---- a listing is never shorter than its shortest last line
+-- ---- a listing has six characters at least, as that of no bytes has
 
 line-six : (rules : Rules) (s : List ℕ) (at : ℕ) (x : Answer (Found Heading)) → 6 ≤ length (line (stepLine rules s at x))
 line-six rules s at (given (command h next)) = omega (arith, command-long rules at (h .cid) (bodyAt s at (h .len)), decimal-some at)

@@ -25,9 +25,13 @@ abbrev pub payloadField : List ℕ → List ℕ
 payloadField [] = ascii "-"
 payloadField (b ∷ bs) = hexOf (b ∷ bs)
 
--- L4: what LinkADRReq alone has behind its payload: the number of channels that its mask switches on
+-- the channels that the mask of a LinkADRReq switches on
+abbrev pub channels : List ℕ → ℕ
+channels body = channelsOn (bytesAt LinkADRReq·channelMask body)
+
+-- L4: what LinkADRReq alone has behind its payload: how many these are
 abbrev pub countField : String → List ℕ → List (List ℕ)
-countField name body = cond (eqt name (named "LinkADRReq" .name)) (decimal (channelsOn (bytesAt LinkADRReq·channelMask body)) ∷ []) []
+countField name body = cond (eqt name (named "LinkADRReq" .name)) (decimal (channels body) ∷ []) []
 
 -- L3: the offset, the direction, the CID, the name, the payload
 abbrev pub commandLine : Rules → Placed → Line

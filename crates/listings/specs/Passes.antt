@@ -9,8 +9,6 @@ use lib.Text.{eqt}
 use Rattle.table.specs.Answers.{Answer, given, refused}
 use Rattle.table.specs.declared.rules.Rules.{Rules}
 use Rattle.table.specs.Table.{lengthOf, nameOf, named}
-use Rattle.fields.specs.Mask.{channelsOn}
-use Rattle.fields.specs.Places.{bytesAt, LinkADRReq·channelMask}
 use Rattle.walk.specs.Step.{Found, ended, command, stopped, Heading}
 use Rattle.walk.specs.Walk.{placed, end, stop}
 use Rattle.text.specs.Characters.{ascii}
@@ -37,9 +35,6 @@ before rules at cid =
 
 abbrev pub behind : Bool → ℕ → List ℕ
 behind counted n = cond counted ((9 ∷ []) ++ decimal n ++ (10 ∷ [])) (10 ∷ [])
-
-abbrev pub channels : List ℕ → ℕ
-channels body = channelsOn (bytesAt LinkADRReq·channelMask body)
 
 abbrev pub isCounted : Rules → ℕ → Bool
 isCounted rules cid = eqt (nameOf rules cid) (named "LinkADRReq" .name)

@@ -24,8 +24,8 @@ ghost use Rattle.walk.specs.Told.{toldStep};
 ghost use Rattle.walk.specs.Walk.{placed, end, stop};
 ghost use Rattle.text.specs.Characters.{ascii};
 ghost use Rattle.text.specs.Lines.{line};
-ghost use Rattle.listings.specs.Listing.{letterOf, payloadField, commandLine, lastLine};
-ghost use Rattle.listings.specs.Passes.{bodyAt, stepLine, before, behind, channels, isCounted, Stands};
+ghost use Rattle.listings.specs.Listing.{channels, letterOf, payloadField, commandLine, lastLine};
+ghost use Rattle.listings.specs.Passes.{bodyAt, stepLine, before, behind, isCounted, Stands};
 
 fn letter(rules: Rules) -> u8
     ensures { λ r. ⌜ r ∷ [] ≡ ascii (letterOf (rules .direction)) ⌝ }
@@ -136,12 +136,12 @@ fn put_payload(out: &mut [u8], to: usize, stream: &[u8], at: usize, len: usize) 
 
 fn put_behind(
     rules: Rules,
+    out: &mut [u8],
+    to: usize,
     stream: &[u8],
     at: usize,
     cid: u8,
     len: usize,
-    out: &mut [u8],
-    to: usize,
 ) -> usize
     requires { ⌜ Stands rules (now stream) at cid len ⌝ }
     requires { ⌜ to + length (behind (isCounted rules cid) (channels (bodyAt (now stream) at len))) ≤ length (now out) ⌝ }
@@ -160,12 +160,12 @@ fn put_behind(
 
 fn put_command(
     rules: Rules,
+    out: &mut [u8],
+    to: usize,
     stream: &[u8],
     at: usize,
     cid: u8,
     len: usize,
-    out: &mut [u8],
-    to: usize,
 ) -> usize
     requires { ⌜ Stands rules (now stream) at cid len ⌝ }
     requires { ⌜ to + length (line (commandLine rules (placed at cid (bodyAt (now stream) at len)))) ≤ length (now out) ⌝ }
@@ -173,7 +173,7 @@ fn put_command(
 {
     let a = put_before(rules, out, to, at, cid);
     let b = put_payload(out, a, stream, at, len);
-    put_behind(rules, stream, at, cid, len, out, b)
+    put_behind(rules, out, b, stream, at, cid, len)
 }
 
 fn put_end(out: &mut [u8], to: usize, at: usize) -> usize
@@ -197,18 +197,18 @@ fn put_stop(out: &mut [u8], to: usize, at: usize, number: u8) -> usize
 // Writes the line that a step is listed by, and answers the offset behind it.
 pub(crate) fn put_line(
     rules: Rules,
+    out: &mut [u8],
+    to: usize,
     stream: &[u8],
     at: usize,
     found: Step,
-    out: &mut [u8],
-    to: usize,
 ) -> usize
     requires { ⌜ toldStep found ≡ stepAt (lengthOf rules) (now stream) at ⌝ }
     requires { ⌜ to + length (line (stepLine rules (now stream) at (toldStep found))) ≤ length (now out) ⌝ }
     ensures { λ r. ⌜ (r, now (out .exit)) ≡ writtenAt (now (out .entry)) to (line (stepLine rules (now (stream .entry)) at (toldStep found))) ⌝ }
 {
     match found {
-        Step::Command { cid, len, next: _ } => put_command(rules, stream, at, cid, len, out, to),
+        Step::Command { cid, len, next: _ } => put_command(rules, out, to, stream, at, cid, len),
         Step::End => put_end(out, to, at),
         Step::Stop { reason, at: _ } => put_stop(out, to, at, reason.number()),
         Step::Refused(_) => put_end(out, to, at),

@@ -10,12 +10,12 @@ ghost use mathlib.Core.Path.{_≡_};
 ghost use Prim.Native.Nat.{_≤_};
 ghost use lib.ListN.{length};
 ghost use Rattle.bits.specs.Memory.{writtenAt};
-ghost use Rattle.listings.specs.Into.{lengthIn, into};
+ghost use Rattle.listings.specs.Into.{largest, lengthWithin, into};
 ghost use Rattle.listings.specs.Listing.{listingOf};
 ghost use Rattle.listings.specs.Told.{toldListing};
 
 fn measure(rules: Rules, stream: &[u8], room: usize) -> ListingAnswer
-    ensures { λ r. ⌜ toldListing r ≡ lengthIn room (listingOf rules (now (stream .entry))) ⌝ }
+    ensures { λ r. ⌜ toldListing r ≡ lengthWithin room (listingOf rules (now (stream .entry))) ⌝ }
 {
     let mut at: usize = 0;
     let mut sum: usize = 0;
@@ -50,7 +50,7 @@ fn write_lines(rules: Rules, stream: &[u8], out: &mut [u8]) -> usize
     let mut to: usize = 0;
     loop {
         let found = step_at(rules, stream, at);
-        to = put_line(rules, stream, at, found, out, to);
+        to = put_line(rules, out, to, stream, at, found);
         match found {
             Step::Command {
                 cid: _,
@@ -68,7 +68,7 @@ fn write_lines(rules: Rules, stream: &[u8], out: &mut [u8]) -> usize
 
 // The length of the listing of a stream, to size a buffer by. Of a text that is too long for any buffer it is a refusal.
 pub fn listing_len(rules: Rules, stream: &[u8]) -> ListingAnswer
-    ensures { λ r. ⌜ toldListing r ≡ lengthIn 18446744073709551615 (listingOf rules (now (stream .entry))) ⌝ }
+    ensures { λ r. ⌜ toldListing r ≡ lengthWithin largest (listingOf rules (now (stream .entry))) ⌝ }
 {
     measure(rules, stream, usize::MAX)
 }

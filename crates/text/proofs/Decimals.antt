@@ -1,4 +1,4 @@
--- Decimal spellings: an induction by digits, and what follows. Assumes nothing.
+-- Numbers in decimal: laws by induction on how many digits there are. Assumes nothing.
 use Prim.Native.Nat.{ℕ, zero, suc, _+_, _-_, _*_, _/_, _%_, _^_, _<_, _≤_}
 use mathlib.Core.Bool.{Bool, true, false}
 use mathlib.Core.List.{List, [], _∷_, _++_, append-nil}
@@ -13,7 +13,7 @@ use Rattle.bits.specs.Every.{Every}
 use Rattle.text.specs.Decimal.{digits, decimal, valueFrom, valueOf, Digit, Numeral}
 use Rattle.text.specs.Lines.{Plain}
 
--- what holds of every digit, and of a number continued by a digit where it holds of the number, holds of every number
+-- to show something of all numbers, show it of those below ten, and of ten times a number that has it, with a digit added
 module _ (P : ℕ → Type 0) (one : (d : ℕ) → d < 10 → P d) (more : (m d : ℕ) → 1 ≤ m → d < 10 → P m → P (m * 10 + d)) where
   below : (k n : ℕ) → n < k → P n
   below zero n h = absurd (omega arith)
@@ -29,7 +29,7 @@ module _ (P : ℕ → Type 0) (one : (d : ℕ) → d < 10 → P d) (more : (m d 
   pub by-digits : (n : ℕ) → P n
   by-digits n = below (suc n) n (omega arith)
 
--- a bound past the digits that a number needs changes nothing
+-- any bound will do that the digits stay below
 digits-enough : (k l n : ℕ) → n < k → n < l → digits k n ≡ digits l n
 unfolding digits
 digits-enough zero l n h g = absurd (omega arith)
@@ -113,7 +113,7 @@ decimal-numeral = by-digits (λ (n : ℕ). Numeral (decimal n))
     subst Numeral (sym (l .whole))
     (numeral (l .digit) (l .behind) (subst (Every Digit) (l .whole) (decimal-digits (m * 10 + d))) (l .no-zero (omega arith))))
 
--- digits behind a number's spelling spell a number
+-- a spelling, and digits written on behind it
 decimal-from : (v : ℕ) (t : List ℕ) → 1 ≤ v → Every Digit t → decimal (valueFrom v t) ≡ decimal v ++ t
 unfolding valueFrom
 decimal-from v [] h d = sym (append-nil (decimal v))
@@ -147,11 +147,11 @@ numeral-spelled (c ∷ b ∷ t) h =
 pub decimal-some : (n : ℕ) → 1 ≤ length (decimal n)
 decimal-some n = let l = leads n in rw (l .whole) (omega arith)
 
--- one more than a tenth of the number has
+-- a tenth of the number has one digit less
 pub decimal-long : (n : ℕ) → 10 ≤ n → length (decimal n) ≡ length (decimal (n / 10)) + 1
 decimal-long n h = ap length (decimal-rest n h) ∙ length-append (decimal (n / 10)) ((48 + n % 10) ∷ [])
 
--- a number below a power of ten has no more digits than the power says
+-- below ten to the power k there are k digits at most
 pub decimal-at-most : (k n : ℕ) → n < 10 ^ suc k → length (decimal n) ≤ suc k
 decimal-at-most zero n h = omega (arith, ap length (decimal-one n h))
 decimal-at-most (suc k) n h = by (ltb n 10) refl (λ g. decimal-at-most k (n / 10) (omega (arith, pow-suc 10 (suc k))))

@@ -2,20 +2,21 @@
 use Prim.Native.Nat.{ℕ, _+_, _-_, _*_, _/_, _%_, _<_, _≤_}
 use mathlib.Core.Bool.{Bool, true, false, cond}
 use mathlib.Core.List.{List, [], _∷_, _++_}
-use mathlib.Core.Logic.{_⊎_, inl, inr}
+use mathlib.Core.Logic.{inl, inr}
 use mathlib.Core.Path.{_≡_, refl, sym, ap, ap₂, _∙_}
 use native.Mathlib.Omega.{arith}
 use lib.Dec.{ltb}
 use lib.ListN.{length}
 use borrow.Author.Tests.{ltb-true, ltb-false, lt-ltb, le-ltb}
+use Rattle.bits.specs.Bits.{Byte}
 use Rattle.bits.specs.Every.{Every}
-use Rattle.text.specs.Hex.{hexDigit, hexByte, hexOf, IsByte, HexDigit, Pairs, digitValue, bytesOf}
+use Rattle.text.specs.Hex.{hexDigit, hexByte, hexOf, HexDigit, Pairs, digitValue, bytesOf}
 use Rattle.text.specs.Lines.{Plain}
 
 -- ---- one digit
 
-digit-back : (d : ℕ) → d < 16 → digitValue (hexDigit d) ≡ d
-digit-back d h = by (ltb d 10) refl
+digit-back : (d : ℕ) → digitValue (hexDigit d) ≡ d
+digit-back d = by (ltb d 10) refl
   where
     by : (b : Bool) → ltb d 10 ≡ b → digitValue (cond b (48 + d) (55 + d)) ≡ d
     by true e = let l = ltb-true d 10 e in rw (lt-ltb (48 + d) 65 (omega arith)) (omega arith)
@@ -46,19 +47,18 @@ means c (inr h) =
 
 -- ---- bytes
 
-pub hex-pairs : (s : List ℕ) → Every IsByte s → Pairs (hexOf s)
+pub hex-pairs : (s : List ℕ) → Every Byte s → Pairs (hexOf s)
 unfolding hexOf
 hex-pairs [] h = tt
 hex-pairs (b ∷ s) h = let l = h .0 in (digit-form (b / 16) (omega arith), digit-form (b % 16) (omega arith), hex-pairs s (h .1))
 
-pub hex-back : (s : List ℕ) → Every IsByte s → bytesOf (hexOf s) ≡ s
+pub hex-back : (s : List ℕ) → bytesOf (hexOf s) ≡ s
 unfolding hexOf bytesOf
-hex-back [] h = refl
-hex-back (b ∷ s) h =
-    let l = h .0 in
+hex-back [] = refl
+hex-back (b ∷ s) =
     let e : digitValue (hexDigit (b / 16)) * 16 + digitValue (hexDigit (b % 16)) ≡ b =
-    omega (arith, digit-back (b / 16) (omega arith), digit-back (b % 16) (omega arith)) in
-    ap₂ (λ (x : ℕ) (l : List ℕ). x ∷ l) e (hex-back s (h .1))
+    omega (arith, digit-back (b / 16), digit-back (b % 16)) in
+    ap₂ (λ (x : ℕ) (l : List ℕ). x ∷ l) e (hex-back s)
 
 pub pairs-spelled : (s : List ℕ) → Pairs s → hexOf (bytesOf s) ≡ s
 unfolding hexOf bytesOf
@@ -74,8 +74,14 @@ pairs-spelled (c ∷ d ∷ s) h =
     ap₂ (λ (a : ℕ) (l : List ℕ). a ∷ l) (ap hexDigit high ∙ x .there)
     (ap₂ (λ (a : ℕ) (l : List ℕ). a ∷ l) (ap hexDigit low ∙ y .there) (pairs-spelled s (h .2)))
 
-pub hex-injective : (s t : List ℕ) → Every IsByte s → Every IsByte t → hexOf s ≡ hexOf t → s ≡ t
-hex-injective s t p q e = sym (hex-back s p) ∙ ap bytesOf e ∙ hex-back t q
+pub pairs-bytes : (s : List ℕ) → Pairs s → Every Byte (bytesOf s)
+unfolding bytesOf
+pairs-bytes [] h = tt
+pairs-bytes (c ∷ []) h = absurd h
+pairs-bytes (c ∷ d ∷ s) h = let p = means c (h .0) .small in let q = means d (h .1) .small in (omega arith, pairs-bytes s (h .2))
+
+pub hex-injective : (s t : List ℕ) → hexOf s ≡ hexOf t → s ≡ t
+hex-injective s t e = sym (hex-back s) ∙ ap bytesOf e ∙ hex-back t
 
 pub hex-none : hexOf [] ≡ []
 unfolding hexOf

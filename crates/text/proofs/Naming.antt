@@ -1,14 +1,17 @@
 -- A command's name, by its row. Assumes nothing.
 use Prim.Native.Nat.{ℕ}
 use Prim.Native.String.{String}
-use mathlib.Core.List.{List, []}
-use mathlib.Core.Path.{_≡_, sym, ap, _∙_, subst}
+use mathlib.Core.Bool.{Bool, true, false, cond}
+use mathlib.Core.List.{List, [], _∷_}
+use mathlib.Core.Path.{_≡_, refl, sym, ap, _∙_, subst}
+use native.Mathlib.Omega.{arith}
+use lib.Dec.{eqb}
 use lib.ListN.{length}
 use Rattle.bits.specs.Memory.{writtenAt}
 use Rattle.bits.proofs.Memory.{written-nothing}
 use Rattle.table.specs.declared.rules.Direction.{Direction}
 use Rattle.table.specs.declared.rules.Direction.the-variants.{Down, Up}
-use Rattle.table.specs.Table.{rows, nameIn}
+use Rattle.table.specs.Table.{Row, rows, sideOf, nameIn}
 use Rattle.text.specs.Characters.{ascii}
 
 -- the names of a CID have so many letters, both
@@ -28,3 +31,24 @@ put-in d out at e n w = w ∙ ap (writtenAt out at) (n ∙ ap (λ (x : ℕ). asc
 pub put-none : (d : Direction) (out : List ℕ) (at c : ℕ) → nameIn rows d c ≡ "" → (at, out) ≡ writtenAt out at (ascii (nameIn rows d c))
 unfolding ascii
 put-none d out at c e = written-nothing out at ∙ ap (λ (s : String). writtenAt out at (ascii s)) (sym e)
+
+-- whether all names of these rows pass a test, by computing
+unfoldable pub namesPass : (String → Bool) → Direction → List Row → Bool
+namesPass test d [] = true
+namesPass test d (r ∷ rs) = cond (test (sideOf d (r .down) (r .up))) (namesPass test d rs) false
+
+-- what the test tells holds then of the name of every byte
+pub every-name : (P : String → Type 0) (test : String → Bool) → ((n : String) → test n ≡ true → P n) → P "" → (d : Direction) (rs : List Row) (c : ℕ)
+    → namesPass test d rs ≡ true → P (nameIn rs d c)
+unfolding namesPass
+every-name P test told none d [] c h = none
+every-name P test told none d (r ∷ rs) c h = by (test (sideOf d (r .down) (r .up))) refl h (every-name P test told none d rs c)
+  where
+    pick : (b : Bool) → P (sideOf d (r .down) (r .up)) → P (nameIn rs d c) → P (cond b (sideOf d (r .down) (r .up)) (nameIn rs d c))
+    pick true x y = x
+    pick false x y = y
+
+    by : (b : Bool) → test (sideOf d (r .down) (r .up)) ≡ b → cond b (namesPass test d rs) false ≡ true
+        → (namesPass test d rs ≡ true → P (nameIn rs d c)) → P (nameIn (r ∷ rs) d c)
+    by true e h rest = pick (eqb c (r .cid)) (told (sideOf d (r .down) (r .up)) e) (rest h)
+    by false e h rest = let no-way : _≡_ {A = ℕ} 0 1 = cc in absurd (omega arith)

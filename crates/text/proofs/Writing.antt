@@ -1,6 +1,6 @@
--- What the writers' loops keep: a number is written from its last digit to its first, and bytes are written one behind the other. Assumes nothing.
+-- What the loops of the writers keep. Digits go to their places from the right; bytes go from the left. Assumes nothing.
 use Prim.Native.Nat.{ℕ, _+_, _-_, _*_, _/_, _%_, _<_, _≤_}
-use mathlib.Core.Path.{_≡_, refl, sym, ap, ap₂, _∙_, subst}
+use mathlib.Core.Path.{_≡_, refl, sym, ap, _∙_, subst}
 use mathlib.Core.List.{List, [], _∷_, _++_, append-nil}
 use native.Mathlib.Nat.{mul-le-mul-left, mul-add, mul-one}
 use native.Mathlib.Numerals.{add-one}
@@ -8,47 +8,47 @@ use native.Mathlib.Omega.{arith}
 use lib.ListN.{length, getD, set, take, length-append}
 use lib.Seq.{take-suc, take-all, append-snoc, length-take-le}
 use Rattle.bits.specs.Memory.{over, writtenAt}
-use Rattle.bits.proofs.Memory.{Puts, no-room, over-none, over-before, over-length, written-of, puts-of, puts-then, puts-none, puts-length}
+use Rattle.bits.proofs.Memory.{Left, Puts, no-room, over-none, over-before, over-length, written-of, puts-of, puts-then, puts-none, puts-length}
 use Rattle.text.specs.Decimal.{decimal}
 use Rattle.text.specs.Hex.{hexByte, hexOf}
 use Rattle.text.proofs.Decimals.{decimal-one, decimal-rest, decimal-long, decimal-some}
 use Rattle.text.proofs.Hexes.{hex-none, hex-behind, hex-long}
 
 module _ (out : List ℕ) (at n : ℕ) where
-  -- from offset i on stand the number's last digits; what is to come before them spells rest
-  pub record Ending (i rest : ℕ) (o : List ℕ) : Type 0 where
+  -- the right-hand digits stand from offset i on, and those that are missing are the digits of `rest`
+  pub record Spelt (i rest : ℕ) (o : List ℕ) : Type 0 where
     pub tail : List ℕ
     pub whole : decimal n ≡ decimal rest ++ tail
     pub place : i ≡ at + length (decimal rest)
     pub memory : o ≡ over out i tail
 
-  pub ending-none : (k : ℕ) → k ≡ length (decimal n) → Ending (at + k) n out
-  ending-none k e = record {
+  pub spelt-none : (k : ℕ) → k ≡ length (decimal n) → Spelt (at + k) n out
+  spelt-none k e = record {
     tail = [];
     whole = sym (append-nil (decimal n));
     place = ap (λ (x : ℕ). at + x) e;
     memory = sym (over-none out (at + k));
   }
 
-  module _ (fits : at + length (decimal n) ≤ length out) {i rest : ℕ} {o : List ℕ} (w : Ending i rest o) where
+  module _ (fits : at + length (decimal n) ≤ length out) {i rest : ℕ} {o : List ℕ} (w : Spelt i rest o) where
     sizes : length (decimal n) ≡ length (decimal rest) + length (w .tail)
     sizes = ap length (w .whole) ∙ length-append (decimal rest) (w .tail)
 
-    pub ending-length : length o ≡ length out
-    ending-length = ap length (w .memory) ∙ over-length out i (w .tail) (let p = w .place in omega (arith, sizes))
+    pub spelt-length : length o ≡ length out
+    spelt-length = ap length (w .memory) ∙ over-length out i (w .tail) (let p = w .place in omega (arith, sizes))
 
-    pub ending-place : (at + 1 ≤ i) × (i ≤ length out)
-    ending-place = let p = w .place in (omega (arith, decimal-some rest), omega (arith, sizes))
+    pub spelt-place : (at + 1 ≤ i) × (i ≤ length out)
+    spelt-place = let p = w .place in (omega (arith, decimal-some rest), omega (arith, sizes))
 
-    -- a digit in front
+    -- one digit more, to the left of them
     before : (j c : ℕ) → i ≡ j + 1 → set o j c ≡ over out j (c ∷ w .tail)
     before j c e =
         ap (λ (x : List ℕ). set x j c) (w .memory ∙ ap (λ (k : ℕ). over out k (w .tail)) e)
-        ∙ over-before out j c (w .tail) (let p = ending-place in omega arith)
+        ∙ over-before out j c (w .tail) (let p = spelt-place in omega arith)
 
-    pub ending-more : 10 ≤ rest → Ending (i - 1) (rest / 10) (set o (i - 1) (48 + rest % 10))
-    ending-more h =
-        let p = ending-place in
+    pub spelt-more : 10 ≤ rest → Spelt (i - 1) (rest / 10) (set o (i - 1) (48 + rest % 10))
+    spelt-more h =
+        let p = spelt-place in
         let q = w .place in
         record {
           tail = (48 + rest % 10) ∷ w .tail;
@@ -57,8 +57,8 @@ module _ (out : List ℕ) (at n : ℕ) where
           memory = before (i - 1) (48 + rest % 10) (omega arith);
         }
 
-    pub ending-all : rest < 10 → (at + length (decimal n), set o at (48 + rest)) ≡ writtenAt out at (decimal n)
-    ending-all h =
+    pub spelt-all : rest < 10 → (at + length (decimal n), set o at (48 + rest)) ≡ writtenAt out at (decimal n)
+    spelt-all h =
         let one : decimal rest ≡ (48 + rest) ∷ [] = decimal-one rest h in
         let all : decimal n ≡ (48 + rest) ∷ w .tail = w .whole ∙ ap (λ (s : List ℕ). s ++ w .tail) one in
         let q = w .place in
@@ -97,7 +97,7 @@ module _ {spell : List ℕ → List ℕ} (S : Spelling spell) (out : List ℕ) (
     pub wrote-length : length o ≡ length out
     wrote-length = puts-length (w .puts)
 
-    pub wrote-more : {n : ℕ} {m : List ℕ} → i < length bytes → _≡_ {A = ℕ × List ℕ} (n, m) (writtenAt o next (S .each (getD bytes i 0))) → Wrote (i + 1) n m
+    pub wrote-more : {n : ℕ} {m : List ℕ} → i < length bytes → Left n m o next (S .each (getD bytes i 0)) → Wrote (i + 1) n m
     wrote-more {n} {m} h e =
         let b = w .puts .behind in
         let r = w .room in
@@ -108,7 +108,7 @@ module _ {spell : List ℕ → List ℕ} (S : Spelling spell) (out : List ℕ) (
         let room : next + length (S .each (getD bytes i 0)) ≤ length o = omega (arith, wrote-length, S .one (getD bytes i 0), mul-add (S .width) i 1, mul-one (S .width)) in
         record { within = omega arith; puts = subst (λ (s : List ℕ). Puts out at s n m) (sym more) (puts-then (w .puts) (puts-of room e)); room = r }
 
-    pub wrote-all : length bytes ≤ i → _≡_ {A = ℕ × List ℕ} (next, o) (writtenAt out at (spell bytes))
+    pub wrote-all : length bytes ≤ i → Left next o out at (spell bytes)
     wrote-all h = written-of (subst (λ (s : List ℕ). Puts out at (spell s) next o) (take-all i bytes h) (w .puts))
 
 -- no room for all of the bytes

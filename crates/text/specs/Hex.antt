@@ -1,9 +1,10 @@
 -- Bytes in hex, two capital digits each (RULES: L5): 48 to 57 are 0 to 9, and 65 to 70 are A to F.
-use Prim.Native.Nat.{ℕ, _+_, _-_, _*_, _/_, _%_, _≤_, _<_}
+use Prim.Native.Nat.{ℕ, _+_, _-_, _*_, _/_, _%_, _≤_}
 use mathlib.Core.Bool.{cond}
 use mathlib.Core.List.{List, [], _∷_, _++_}
 use mathlib.Core.Logic.{_⊎_}
 use lib.Dec.{ltb}
+use Rattle.text.specs.Decimal.{Digit}
 
 abbrev pub hexDigit : ℕ → ℕ
 hexDigit d = cond (ltb d 10) (48 + d) (55 + d)
@@ -17,11 +18,8 @@ hexOf (b ∷ s) = hexByte b ++ hexOf s
 
 -- ---- reading
 
-abbrev pub IsByte : ℕ → Type 0
-IsByte b = b < 256
-
 abbrev pub HexDigit : ℕ → Type 0
-HexDigit c = ((48 ≤ c) × (c ≤ 57)) ⊎ ((65 ≤ c) × (c ≤ 70))
+HexDigit c = Digit c ⊎ ((65 ≤ c) × (c ≤ 70))
 
 -- pairs of digits, and nothing else
 abbrev pub Pairs : List ℕ → Type 0
@@ -29,11 +27,11 @@ Pairs [] = Unit
 Pairs (c ∷ []) = ⊥
 Pairs (c ∷ d ∷ s) = HexDigit c × HexDigit d × Pairs s
 
--- what a digit means
+-- a digit's number
 abbrev pub digitValue : ℕ → ℕ
 digitValue c = cond (ltb c 65) (c - 48) (c - 55)
 
--- the bytes that pairs of digits mean
+-- each pair read as a byte
 unfoldable pub bytesOf : List ℕ → List ℕ
 bytesOf [] = []
 bytesOf (c ∷ []) = []

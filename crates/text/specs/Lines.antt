@@ -2,8 +2,9 @@
 use Prim.Native.Nat.{ℕ}
 use mathlib.Core.List.{List, [], _∷_, _++_}
 use mathlib.Core.Path.{_≡_}
+use Rattle.bits.specs.Every.{Every}
 
--- a line has a first field, and maybe more
+-- at least one field
 pub record Line : Type 0 where
   pub first : List ℕ
   pub more : List (List ℕ)
@@ -24,13 +25,14 @@ abbrev pub Plain : List ℕ → Type 0
 Plain [] = Unit
 Plain (c ∷ s) = (c ≡ 9 → ⊥) × (c ≡ 10 → ⊥) × Plain s
 
-abbrev pub AllPlain : List (List ℕ) → Type 0
-AllPlain [] = Unit
-AllPlain (f ∷ fs) = Plain f × AllPlain fs
-
 abbrev pub PlainLine : Line → Type 0
-PlainLine l = Plain (l .first) × AllPlain (l .more)
+PlainLine l = Plain (l .first) × Every Plain (l .more)
 
 abbrev pub PlainText : List Line → Type 0
-PlainText [] = Unit
-PlainText (l ∷ ls) = PlainLine l × PlainText ls
+PlainText ls = Every PlainLine ls
+
+-- empty, or with a newline at its end
+abbrev pub Ended : List ℕ → Type 0
+Ended [] = Unit
+Ended (c ∷ []) = c ≡ 10
+Ended (c ∷ d ∷ s) = Ended (d ∷ s)

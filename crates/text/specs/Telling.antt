@@ -2,10 +2,11 @@
 use Prim.Native.Nat.{ℕ}
 use mathlib.Core.List.{List, _++_}
 use mathlib.Core.Path.{_≡_}
+use Rattle.bits.specs.Bits.{Byte}
 use Rattle.bits.specs.Every.{Every}
 use Rattle.text.specs.Decimal.{decimal, valueOf, Numeral}
-use Rattle.text.specs.Hex.{hexOf, bytesOf, IsByte, Pairs}
-use Rattle.text.specs.Lines.{Line, line, text, PlainLine, PlainText}
+use Rattle.text.specs.Hex.{hexOf, bytesOf, Pairs}
+use Rattle.text.specs.Lines.{Line, line, text, PlainLine, PlainText, Ended}
 
 -- a number has one spelling: it is a numeral, it gives the number back, and every numeral is the spelling of what it means
 pub record OneSpelling : Type 0 where
@@ -13,13 +14,15 @@ pub record OneSpelling : Type 0 where
   pub back : (n : ℕ) → valueOf (decimal n) ≡ n
   pub only : (s : List ℕ) → Numeral s → decimal (valueOf s) ≡ s
 
--- so have bytes: pairs of digits give them back, and all pairs are the spelling of what they mean
+-- so have bytes: they are pairs of digits, which give them back, and all pairs mean bytes and are their spelling
 pub record BytesBack : Type 0 where
-  pub pairs : (s : List ℕ) → Every IsByte s → Pairs (hexOf s)
-  pub back : (s : List ℕ) → Every IsByte s → bytesOf (hexOf s) ≡ s
+  pub pairs : (s : List ℕ) → Every Byte s → Pairs (hexOf s)
+  pub back : (s : List ℕ) → bytesOf (hexOf s) ≡ s
+  pub bytes : (s : List ℕ) → Pairs s → Every Byte (bytesOf s)
   pub only : (s : List ℕ) → Pairs s → hexOf (bytesOf s) ≡ s
 
--- a line's fields, and a text's lines, can be told apart again, whatever stands behind
+-- a line's fields can be told apart again, whatever stands behind the line, and so can a text's lines; and what ends in a newline is some lines' text
 pub record ToldApart : Type 0 where
   pub lines : (l m : Line) (x y : List ℕ) → PlainLine l → PlainLine m → line l ++ x ≡ line m ++ y → (l ≡ m) × (x ≡ y)
   pub texts : (ls ms : List Line) → PlainText ls → PlainText ms → text ls ≡ text ms → ls ≡ ms
+  pub parted : (t : List ℕ) → Ended t → (ls : List Line) × (PlainText ls × (text ls ≡ t))

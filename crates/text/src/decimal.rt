@@ -5,7 +5,7 @@ ghost use lib.ListN.{length};
 ghost use Rattle.bits.specs.Memory.{writtenAt};
 ghost use Rattle.text.specs.Decimal.{decimal};
 
-// How many digits a number has.
+// The number of digits that `put_decimal` needs room for.
 pub fn decimal_len(n: usize) -> usize
     ensures { λ r. ⌜ r ≡ length (decimal n) ⌝ }
 {

@@ -1,5 +1,5 @@
-// Numbers, bytes and names as text, written into lent memory. A writer writes at an offset and answers the offset behind what it wrote; where
-// there is no room for all of it, nothing is written, and the answer is the offset itself.
+// Texts in lent memory: numbers, bytes in hex, names. Each writer takes an offset to write at, and answers the offset where its text ends. Where not
+// all of the text has room, it writes none of it and answers the offset that it was given.
 pub mod decimal;
 pub mod hex;
 pub mod names;

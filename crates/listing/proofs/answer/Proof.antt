@@ -1,8 +1,10 @@
 -- `answer` meets its contract. Assumes nothing.
+use Prim.Native.Nat.{ℕ}
+use mathlib.Core.List.{List}
 use mathlib.Core.Path.{ap, _∙_}
 use borrow.Author.Needs.{needs}
-use Rattle.bits.specs.Memory.{writtenAt}
-use Rattle.listing.proofs.Printing.{behind-few, for-none, for-long, for-down, for-up, for-other}
+use Rattle.listing.specs.Program.{atFront}
+use Rattle.listing.proofs.Printing.{stream-few, for-none, for-long, for-down, for-up, for-other}
 use Rattle.listing.proofs.answer.Statement.{statement}
 use Rattle.listing.proofs.answer.Tie as tie
 
@@ -11,20 +13,20 @@ returns c =
     let p = c .before .before in
     let t = p .before .before in
     let i = t .before .before .before in
-    p .put-bad .ensures ∙ ap (writtenAt (i .args .out .now) 0) (for-none (i .args .input .now) (t .if1 .taken))
+    p .put-bad .ensures ∙ ap (λ (t : List ℕ). atFront t (i .args .out .now)) (for-none (i .args .input .now) (t .if1 .taken))
 
 returns-2 : tie.Need-returns-2
 returns-2 c =
     let p = c .before .before in
     let t = p .before .before in
     let i = t .before .before .before .before in
-    p .put-bad2 .ensures ∙ ap (writtenAt (i .args .out .now) 0) (for-long (i .args .input .now) (t .if2 .taken))
+    p .put-bad2 .ensures ∙ ap (λ (t : List ℕ). atFront t (i .args .out .now)) (for-long (i .args .input .now) (t .if2 .taken))
 
 put-listing-requires : tie.Need-put-listing-requires
 put-listing-requires c κs =
     let e = c .before .before .before .before in
     let i = e .before .before .before .before in
-    (behind-few (i .args .input .now) (e .if2 .left), i .pre)
+    (stream-few (i .args .input .now) (e .if2 .left), i .pre)
 
 returns-3 : tie.Need-returns-3
 returns-3 c =
@@ -32,13 +34,13 @@ returns-3 c =
     let t = p .before .before .before in
     let e = t .before .before in
     let i = e .before .before .before .before in
-    p .put-listing .ensures ∙ ap (writtenAt (i .args .out .now) 0) (for-down (i .args .input .now) (e .before .if1 .left) (e .if2 .left) (t .if3 .taken))
+    p .put-listing .ensures ∙ ap (λ (t : List ℕ). atFront t (i .args .out .now)) (for-down (i .args .input .now) (e .before .if1 .left) (e .if2 .left) (t .if3 .taken))
 
 put-listing-requires-2 : tie.Need-put-listing-requires-2
 put-listing-requires-2 c κs =
     let e = c .before .before .before .before .before in
     let i = e .before .before .before .before in
-    (behind-few (i .args .input .now) (e .if2 .left), i .pre)
+    (stream-few (i .args .input .now) (e .if2 .left), i .pre)
 
 returns-4 : tie.Need-returns-4
 returns-4 c =
@@ -46,7 +48,7 @@ returns-4 c =
     let t = p .before .before .before in
     let e = t .before .before .before in
     let i = e .before .before .before .before in
-    p .put-listing2 .ensures ∙ ap (writtenAt (i .args .out .now) 0) (for-up (i .args .input .now) (e .before .if1 .left) (e .if2 .left) (t .before .if3 .left) (t .if4 .taken))
+    p .put-listing2 .ensures ∙ ap (λ (t : List ℕ). atFront t (i .args .out .now)) (for-up (i .args .input .now) (e .before .if1 .left) (e .if2 .left) (t .before .if3 .left) (t .if4 .taken))
 
 returns-5 : tie.Need-returns-5
 returns-5 c =
@@ -54,7 +56,7 @@ returns-5 c =
     let t = p .before .before in
     let e = t .before .before .before in
     let i = e .before .before .before .before in
-    p .put-bad3 .ensures ∙ ap (writtenAt (i .args .out .now) 0) (for-other (i .args .input .now) (e .before .if1 .left) (e .if2 .left) (t .before .if3 .left) (t .if4 .left))
+    p .put-bad3 .ensures ∙ ap (λ (t : List ℕ). atFront t (i .args .out .now)) (for-other (i .args .input .now) (e .before .if1 .left) (e .if2 .left) (t .before .if3 .left) (t .if4 .left))
 
 pub answer-spec : {M : Type 1} → statement M
 answer-spec =

@@ -1,16 +1,11 @@
 -- `put_listing` meets its contract. Assumes nothing.
-use mathlib.Core.Path.{_≡_, sym, ap, _∙_}
-use mathlib.Core.List.{List}
-use Prim.Native.Nat.{ℕ, _≤_}
+use Prim.Native.Nat.{_≤_}
 use borrow.Author.Needs.{needs}
 use native.Mathlib.Omega.{arith}
 use lib.ListN.{length}
-use Rattle.table.specs.Answers.{Answer}
 use Rattle.listings.specs.Listing.{listingOf}
-use Rattle.listings.specs.Told.{toldListing}
-use Rattle.listings.specs.declared.ListingAnswer.{ListingAnswer}
-use Rattle.listings.proofs.Telling.{text-of-1024}
-use Rattle.listing.proofs.Printing.{total-written, never-refused}
+use Rattle.listings.proofs.Longest.{text-of-1024}
+use Rattle.listing.proofs.Printing.{total-put, never-refused}
 use Rattle.listing.proofs.put_listing.Statement.{statement}
 use Rattle.listing.proofs.put_listing.Tie as tie
 
@@ -21,7 +16,7 @@ returns : tie.Need-returns
 returns c =
     let p = c .before .before .before .before .before in
     let i = p .before .before .before .before in
-    total-written (listingOf (i .args .rules) (i .args .stream .now)) (i .args .out .now) (fits i) (rw (c .before .answer .given .1) at (p .write-listing .ensures))
+    total-put (listingOf (i .args .rules) (i .args .stream .now)) (i .args .out .now) (fits i) (rw (c .before .answer .given .1) at (p .write-listing .ensures))
 
 returns-2 : tie.Need-returns-2
 returns-2 c =

@@ -1,7 +1,5 @@
 -- `nazhdivar_listing` meets its contract. Assumes nothing.
-use Prim.Native.Nat.{ℕ}
-use mathlib.Core.List.{List}
-use mathlib.Core.Path.{ap, _∙_}
+use mathlib.Core.Path.{ap}
 use borrow.Author.Needs.{needs}
 use Rattle.exports.specs.Listing.{withNumber}
 use Rattle.exports.proofs.listing.nazhdivar_listing.Statement.{statement}

@@ -1,12 +1,13 @@
 -- `behind_len` meets its contract. Assumes nothing.
 use Prim.Native.Nat.{ℕ, _+_}
-use mathlib.Core.Path.{_≡_, sym, ap, _∙_}
+use mathlib.Core.Path.{sym, ap, _∙_}
 use mathlib.Core.Bool.{Bool}
 use borrow.Author.Needs.{needs}
 use native.Mathlib.Omega.{arith}
 use lib.ListN.{length}
 use Rattle.text.specs.Decimal.{decimal}
-use Rattle.listings.specs.Passes.{bodyAt, behind, channels}
+use Rattle.listings.specs.Listing.{channels}
+use Rattle.listings.specs.Passes.{bodyAt, behind}
 use Rattle.listings.proofs.Lining.{counted-four, digits-few, counted-long, four-taken}
 use Rattle.listings.proofs.line.behind_len.Statement.{statement}
 use Rattle.listings.proofs.line.behind_len.Tie as tie

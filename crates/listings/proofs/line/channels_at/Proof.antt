@@ -1,12 +1,10 @@
 -- `channels_at` meets its contract. Assumes nothing.
-use mathlib.Core.List.{List}
 use mathlib.Core.Path.{_∙_, ap}
-use Prim.Native.Nat.{ℕ}
 use borrow.Author.Needs.{needs}
 use Rattle.fields.specs.Lists.{tabulate}
 use Rattle.walk.proofs.Commands.{bytes-from}
 use Rattle.fields.specs.Mask.{channelsOn}
-use Rattle.listings.specs.Passes.{channels}
+use Rattle.listings.specs.Listing.{channels}
 use Rattle.listings.proofs.line.channels_at.Statement.{statement}
 use Rattle.listings.proofs.line.channels_at.Tie as tie
 

@@ -45,7 +45,7 @@ returns c =
     let p = c .before .before .before .decimal-len .ensures in
     let q = c .before .before .name-len .ensures in
     let t = c .behind-len .ensures in
-    let r = c .before .payload-len .ensures ∙ ap (λ (n : ℕ). cond (eqb n 0) 1 (2 * n)) (sym (body-long (i .pre))) ∙ sym (payload-long (bodyAt (a .stream .now) (a .at) (a .len))) in
+    let r = c .before .payload-len .ensures ∙ ap (λ (n : ℕ). cond (eqb n 0) 1 (2 * n)) (sym (body-long (a .stream .now) (a .at) (a .len) (i .pre .fits))) ∙ sym (payload-long (bodyAt (a .stream .now) (a .at) (a .len))) in
     omega (arith, command-long (a .rules) (a .at) (a .cid) (bodyAt (a .stream .now) (a .at) (a .len)))
 
 pub command-len-spec : {M : Type 1} → statement M

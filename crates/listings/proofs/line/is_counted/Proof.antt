@@ -1,5 +1,5 @@
 -- `is_counted` meets its contract. Assumes nothing.
-use mathlib.Core.Path.{refl, sym, ap, _∙_}
+use mathlib.Core.Path.{sym, ap, _∙_}
 use borrow.Author.Needs.{needs}
 use Rattle.table.specs.declared.rules.Direction.{Direction}
 use Rattle.listings.proofs.Lining.{countedIn, counted-is}

@@ -1,5 +1,5 @@
 -- `letter` meets its contract. Assumes nothing.
-use mathlib.Core.Path.{refl, sym, ap, _∙_}
+use mathlib.Core.Path.{sym, ap}
 use borrow.Author.Needs.{needs}
 use Rattle.table.specs.declared.rules.Direction.{Direction}
 use Rattle.text.specs.Characters.{ascii}

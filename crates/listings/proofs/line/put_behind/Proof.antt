@@ -4,7 +4,8 @@ use mathlib.Core.Path.{sym, ap, _∙_}
 use borrow.Author.Needs.{needs}
 use native.Mathlib.Omega.{arith}
 use Rattle.bits.specs.Memory.{writtenAt}
-use Rattle.listings.specs.Passes.{bodyAt, behind, channels}
+use Rattle.listings.specs.Listing.{channels}
+use Rattle.listings.specs.Passes.{bodyAt, behind}
 use Rattle.listings.proofs.Lining.{counted-four, four-taken}
 use Rattle.listings.proofs.Putting.{counted-put}
 use Rattle.listings.proofs.line.put_behind.Statement.{statement}

@@ -1,9 +1,7 @@
 -- `put_command` meets its contract. Assumes nothing.
 use borrow.Author.Needs.{needs}
-use native.Mathlib.Omega.{arith}
 use Rattle.listings.specs.Passes.{bodyAt}
-use Rattle.listings.proofs.Lining.{before-long, command-long}
-use Rattle.listings.proofs.Putting.{behind-room, command-put}
+use Rattle.listings.proofs.Putting.{before-room, behind-room, command-put}
 use Rattle.listings.proofs.line.put_command.Statement.{statement}
 use Rattle.listings.proofs.line.put_command.Tie as tie
 
@@ -11,11 +9,10 @@ put-before-requires : tie.Need-put-before-requires
 put-before-requires c κs =
     let i = c .before .before .before in
     let a = i .args in
-    let r = i .pre .1 in
-    omega (arith, before-long (a .rules) (a .at) (a .cid), command-long (a .rules) (a .at) (a .cid) (bodyAt (a .stream .now) (a .at) (a .len)))
+    before-room (a .rules) (a .at) (a .cid) (a .out .now) (a .to) (bodyAt (a .stream .now) (a .at) (a .len)) (i .pre .1)
 
 put-payload-requires : tie.Need-put-payload-requires
-put-payload-requires c κs = let f = c .before .before .before .before .before .before .before .pre .0 .fits in f
+put-payload-requires c κs = c .before .before .before .before .before .before .before .pre .0 .fits
 
 put-behind-requires : tie.Need-put-behind-requires
 put-behind-requires c κs =

@@ -1,10 +1,7 @@
 -- `put_payload` meets its contract. Assumes nothing.
-use mathlib.Core.List.{List}
-use mathlib.Core.Path.{ap, sym, _∙_}
-use Prim.Native.Nat.{ℕ}
+use mathlib.Core.Path.{ap, _∙_}
 use borrow.Author.Needs.{needs}
 use Rattle.bits.specs.Memory.{writtenAt}
-use Rattle.text.specs.Characters.{ascii}
 use Rattle.listings.proofs.Lining.{dash-is, hex-is}
 use Rattle.listings.proofs.line.put_payload.Statement.{statement}
 use Rattle.listings.proofs.line.put_payload.Tie as tie

@@ -1,7 +1,7 @@
 -- `measure` meets its contract. The loop's invariant: the lines of the commands before `at` have `sum` bytes. The measure is what is left of the
 -- stream. Assumes nothing.
 use Prim.Native.Nat.{_-_}
-use mathlib.Core.Path.{refl, sym, ap, _∙_}
+use mathlib.Core.Path.{sym, ap, _∙_}
 use borrow.Author.Needs.{needs}
 use native.Mathlib.Omega.{arith}
 use lib.ListN.{length}

@@ -1,9 +1,9 @@
 -- `write_listing` meets its contract. Assumes nothing.
-use mathlib.Core.Path.{ap, sym, _∙_}
+use mathlib.Core.Path.{ap}
 use borrow.Author.Needs.{needs}
 use Rattle.listings.specs.Listing.{listingOf}
 use Rattle.listings.specs.Told.{toldListing}
-use Rattle.listings.proofs.Walking.{into-refused, fits-of, into-written}
+use Rattle.listings.proofs.Into.{into-refused, fits-of, into-written}
 use Rattle.listings.proofs.passes.write_listing.Statement.{statement}
 use Rattle.listings.proofs.passes.write_listing.Tie as tie
 

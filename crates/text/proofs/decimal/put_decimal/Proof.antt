@@ -4,14 +4,14 @@ use mathlib.Core.Path.{sym, ap₂, _∙_, subst}
 use lib.ListN.{set, length-set}
 use Rattle.text.specs.Decimal.{decimal}
 use Rattle.bits.proofs.Memory.{no-room}
-use Rattle.text.proofs.Writing.{Ending, ending-none, ending-length, ending-place, ending-more, ending-all}
+use Rattle.text.proofs.Writing.{Spelt, spelt-none, spelt-length, spelt-place, spelt-more, spelt-all}
 use borrow.Author.Needs.{needs}
 use native.Mathlib.Omega.{arith}
 use Rattle.text.proofs.decimal.put_decimal.Statement.{statement}
 use Rattle.text.proofs.decimal.put_decimal.Tie as tie
 
 abbrev Inv-loop : tie.InvT-loop
-Inv-loop out₀ at n k end i₀ rest₀ out i rest = Ending out₀ at n i rest out
+Inv-loop out₀ at n k end i₀ rest₀ out i rest = Spelt out₀ at n i rest out
 
 abbrev μ-loop : tie.MeasureT-loop
 μ-loop out₀ at n k end i₀ rest₀ out i rest = rest
@@ -41,14 +41,14 @@ loop-holds : tie.Need-loop-holds Inv-loop μ-loop
 loop-holds c =
     let a = c .before .before .before .before .args in
     let d = c .before .before .decimal-len in
-    ending-none (a .out .now) (a .at) (a .n) (d .result) (d .ensures)
+    spelt-none (a .out .now) (a .at) (a .n) (d .result) (d .ensures)
 
 sub-i : tie.Need-sub-i Inv-loop μ-loop
 sub-i c =
     let e = c .before .before in
     let a = e .before .before .before .before .args in
     let d = e .before .before .decimal-len .ensures in
-    let p = ending-place (a .out .now) (a .at) (a .n) (omega arith) (c .before .loop .inv) in
+    let p = spelt-place (a .out .now) (a .at) (a .n) (omega arith) (c .before .loop .inv) in
     omega arith
 
 digit-requires : tie.Need-digit-requires Inv-loop μ-loop
@@ -59,8 +59,8 @@ slice-write-out c =
     let e = c .before .before .before in
     let a = e .before .before .before .before .args in
     let d = e .before .before .decimal-len .ensures in
-    let p = ending-place (a .out .now) (a .at) (a .n) (omega arith) (c .before .before .loop .inv) in
-    let l = ending-length (a .out .now) (a .at) (a .n) (omega arith) (c .before .before .loop .inv) in
+    let p = spelt-place (a .out .now) (a .at) (a .n) (omega arith) (c .before .before .loop .inv) in
+    let l = spelt-length (a .out .now) (a .at) (a .n) (omega arith) (c .before .before .loop .inv) in
     omega arith
 
 loop-less : tie.Need-loop-less Inv-loop μ-loop
@@ -72,8 +72,8 @@ loop-again c =
     let e = c .before .before .before in
     let a = e .before .before .before .before .args in
     let d = e .before .before .decimal-len .ensures in
-    subst (λ (x : ℕ). Ending (a .out .now) (a .at) (a .n) (l .i - 1) (l .rest / 10) (set (l .out) (l .i - 1) x)) (sym (c .digit .ensures))
-    (ending-more (a .out .now) (a .at) (a .n) (omega arith) (l .inv) (c .before .loop-test .taken))
+    subst (λ (x : ℕ). Spelt (a .out .now) (a .at) (a .n) (l .i - 1) (l .rest / 10) (set (l .out) (l .i - 1) x)) (sym (c .digit .ensures))
+    (spelt-more (a .out .now) (a .at) (a .n) (omega arith) (l .inv) (c .before .loop-test .taken))
 
 digit-requires-2 : tie.Need-digit-requires-2 Inv-loop μ-loop
 digit-requires-2 c κs = search needs
@@ -83,8 +83,8 @@ slice-write-out-2 c =
     let e = c .before .before .before in
     let a = e .before .before .before .before .args in
     let d = e .before .before .decimal-len .ensures in
-    let p = ending-place (a .out .now) (a .at) (a .n) (omega arith) (c .before .before .loop .inv) in
-    let l = ending-length (a .out .now) (a .at) (a .n) (omega arith) (c .before .before .loop .inv) in
+    let p = spelt-place (a .out .now) (a .at) (a .n) (omega arith) (c .before .before .loop .inv) in
+    let l = spelt-length (a .out .now) (a .at) (a .n) (omega arith) (c .before .before .loop .inv) in
     omega arith
 
 same-length : tie.Need-same-length Inv-loop μ-loop
@@ -93,7 +93,7 @@ same-length c =
     let a = e .before .before .before .before .args in
     let d = e .before .before .decimal-len .ensures in
     length-set (c .before .before .loop .out) (a .at) (c .digit2 .result)
-    ∙ ending-length (a .out .now) (a .at) (a .n) (omega arith) (c .before .before .loop .inv)
+    ∙ spelt-length (a .out .now) (a .at) (a .n) (omega arith) (c .before .before .loop .inv)
 
 returns-3 : tie.Need-returns-3 Inv-loop μ-loop
 returns-3 c =
@@ -102,7 +102,7 @@ returns-3 c =
     let a = e .before .before .before .before .args in
     let d = e .before .before .decimal-len .ensures in
     ap₂ (λ (k x : ℕ). (a .at + k, set (l .out) (a .at) x)) d (c .digit2 .ensures)
-    ∙ ending-all (a .out .now) (a .at) (a .n) (omega arith) (l .inv) (c .before .loop-test .left)
+    ∙ spelt-all (a .out .now) (a .at) (a .n) (omega arith) (l .inv) (c .before .loop-test .left)
 
 pub put-decimal-spec : {M : Type 1} → statement M
 put-decimal-spec =
