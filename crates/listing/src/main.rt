@@ -15,8 +15,9 @@ ghost use Rattle.listings.specs.Listing.{listingOf};
 ghost use Rattle.listing.specs.Program.{atFront, badInput, printedFor};
 
 // Reads to the input's end or the buffer's, however the pieces come, and answers how many bytes there were: none where a read failed, so
-// that no part of an input is taken for the whole.
+// that no part of an input is taken for the whole. The buffer has room for the letter, the bytes, and one that is too many.
 fn read_input(buf: &mut [u8]) -> usize
+    requires { ⌜ 1026 ≤ length (now buf) ⌝ }
     ensures { λ r. ⌜ Counts r (now (buf .exit)) ⌝ }
 {
     let mut len: usize = 0;
@@ -88,7 +89,6 @@ fn print(input: &[u8], out: &mut [u8])
 }
 
 fn main() {
-    // The letter, the bytes, and one byte that would be too many.
     let mut space = [0u8; 1026];
     let mut room = [0u8; 28595];
     let n = read_input(&mut space);

@@ -10,7 +10,7 @@ use lib.Dec.{eqb, leb}
 use lib.ListN.{length, length-append, take, drop, length-take, length-drop}
 use lib.Seq.{length-take-le}
 use lib.Text.{eqt}
-use borrow.Author.Tests.{eqb-true, ne-eqb, leb-true}
+use borrow.Author.Tests.{eqb-true, leb-true}
 use Rattle.table.specs.declared.rules.Direction.{Direction}
 use Rattle.table.specs.declared.rules.Direction.the-variants.{Down, Up}
 use Rattle.table.specs.declared.rules.Rules.{Rules}
@@ -20,13 +20,12 @@ use Rattle.fields.specs.Places.{bytesAt, LinkADRReq·channelMask}
 use Rattle.fields.proofs.Lists.{length-tabulate}
 use Rattle.text.specs.Characters.{ascii}
 use Rattle.text.specs.Decimal.{decimal}
-use Rattle.text.specs.Hex.{hexByte, hexOf}
+use Rattle.text.specs.Hex.{hexByte, hexOf, hexField}
 use Rattle.text.specs.Lines.{joined, line}
 use Rattle.text.proofs.Decimals.{decimal-at-most}
-use Rattle.text.proofs.Hexes.{hex-long}
 use Rattle.text.proofs.Naming.{namesPass, every-name}
 use Rattle.walk.specs.Walk.{placed, end, stop}
-use Rattle.listings.specs.Listing.{channels, letterOf, payloadField, commandLine, lastLine}
+use Rattle.listings.specs.Listing.{channels, letterOf, commandLine, lastLine}
 use Rattle.listings.specs.Passes.{bodyAt, before, behind, isCounted}
 
 -- ---- which command has a count
@@ -82,13 +81,13 @@ counted-four rules c n e l = four-of (rules .direction) c n (sym (counted-is (ru
 -- ---- the parts of a command's line
 
 module _ (rules : Rules) (at cid : ℕ) (body : List ℕ) where
-  pub command-parts : line (commandLine rules (placed at cid body)) ≡ before rules at cid ++ payloadField body ++ behind (isCounted rules cid) (channels body)
+  pub command-parts : line (commandLine rules (placed at cid body)) ≡ before rules at cid ++ hexField body ++ behind (isCounted rules cid) (channels body)
   unfolding joined
   command-parts = by (isCounted rules cid)
     where
       by : (b : Bool)
-          → joined (decimal at) (ascii (letterOf (rules .direction)) ∷ hexByte cid ∷ ascii (nameOf rules cid) ∷ payloadField body ∷ cond b (decimal (channels body) ∷ []) [])
-          ≡ before rules at cid ++ payloadField body ++ behind b (channels body)
+          → joined (decimal at) (ascii (letterOf (rules .direction)) ∷ hexByte cid ∷ ascii (nameOf rules cid) ∷ hexField body ∷ cond b (decimal (channels body) ∷ []) [])
+          ≡ before rules at cid ++ hexField body ++ behind b (channels body)
       by true = simp append-assoc
       by false = simp append-assoc
 
@@ -102,16 +101,11 @@ letter-long Up = refl
 pub before-long : (rules : Rules) (at cid : ℕ) → length (before rules at cid) ≡ length (decimal at) + 7 + length (ascii (nameOf rules cid))
 before-long rules at cid = simp length-append (omega (arith, letter-long (rules .direction)))
 
-pub payload-long : (body : List ℕ) → length (payloadField body) ≡ cond (eqb (length body) 0) 1 (2 * length body)
-unfolding ascii
-payload-long [] = refl
-payload-long (b ∷ bs) = hex-long (b ∷ bs) ∙ sym (simp (ne-eqb (length (b ∷ bs)) 0 (λ e. omega arith)))
-
 pub body-long : (s : List ℕ) (at len : ℕ) → at + 1 + len ≤ length s → length (bodyAt s at len) ≡ len
 body-long s at len h = length-take-le len (drop (at + 1) s) (simp length-drop (omega arith))
 
 pub command-long : (rules : Rules) (at cid : ℕ) (body : List ℕ) → length (line (commandLine rules (placed at cid body)))
-    ≡ length (decimal at) + 7 + length (ascii (nameOf rules cid)) + length (payloadField body) + length (behind (isCounted rules cid) (channels body))
+    ≡ length (decimal at) + 7 + length (ascii (nameOf rules cid)) + length (hexField body) + length (behind (isCounted rules cid) (channels body))
 command-long rules at cid body = ap length (command-parts rules at cid body) ∙ simp length-append (omega (arith, letter-long (rules .direction)))
 
 pub end-long : (at : ℕ) → length (line (lastLine (end at))) ≡ length (decimal at) + 5
@@ -173,15 +167,15 @@ payload-few len h = by (eqb len 0)
 
 -- ---- a payload's field, by whether there are bytes
 
-pub dash-is : (s : List ℕ) (at : ℕ) {len : ℕ} → len ≡ 0 → 45 ∷ [] ≡ payloadField (bodyAt s at len)
+pub dash-is : (s : List ℕ) (at : ℕ) {len : ℕ} → len ≡ 0 → 45 ∷ [] ≡ hexField (bodyAt s at len)
 unfolding ascii
-dash-is s at e = sym (ap (λ (k : ℕ). payloadField (bodyAt s at k)) e)
+dash-is s at e = sym (ap (λ (k : ℕ). hexField (bodyAt s at k)) e)
 
-hex-shown : (b : List ℕ) → 1 ≤ length b → hexOf b ≡ payloadField b
+hex-shown : (b : List ℕ) → 1 ≤ length b → hexOf b ≡ hexField b
 hex-shown [] h = absurd (omega arith)
 hex-shown (x ∷ xs) h = refl
 
-pub hex-is : (s : List ℕ) (at len : ℕ) → (len ≡ 0 → ⊥) → at + 1 + len ≤ length s → hexOf (take (at + 1 + len - (at + 1)) (drop (at + 1) s)) ≡ payloadField (bodyAt s at len)
+pub hex-is : (s : List ℕ) (at len : ℕ) → (len ≡ 0 → ⊥) → at + 1 + len ≤ length s → hexOf (take (at + 1 + len - (at + 1)) (drop (at + 1) s)) ≡ hexField (bodyAt s at len)
 hex-is s at len n h =
     let e : at + 1 + len - (at + 1) ≡ len = omega arith in
     let l = body-long s at len h in

@@ -12,13 +12,14 @@ use Rattle.table.specs.Table.{lengthOf}
 use Rattle.payloads.specs.Commands.{sentUp}
 use Rattle.text.specs.Characters.{ascii}
 use Rattle.text.specs.Decimal.{digits, decimal}
+use Rattle.text.specs.Hex.{hexField}
 use Rattle.text.specs.Lines.{line, text}
 use Rattle.text.proofs.Decimals.{decimal-one, decimal-some}
 use Rattle.text.proofs.Hexes.{hex-long}
 use Rattle.walk.specs.Ownership.{Ends, nothing-left, no-cid, cut-short}
 use Rattle.walk.specs.Walk.{Placed, placed, Ending, end, Walk, finish, after, walkFrom}
 use Rattle.walk.proofs.Laws.{View, ends, goes, view, walk-nil, walk-command, walk-ends}
-use Rattle.listings.specs.Listing.{channels, payloadField, commandLine, lastLine, linesOf, printed}
+use Rattle.listings.specs.Listing.{channels, commandLine, lastLine, linesOf, printed}
 use Rattle.listings.specs.Longest.{LongestText, TextOf1024}
 use Rattle.listings.specs.Passes.{behind, isCounted}
 use Rattle.listings.proofs.Lining.{counted-four, command-long, end-long, stop-long, name-few, behind-few}
@@ -47,7 +48,7 @@ most-more at (suc left) k =
     let many : suc left + k ≡ suc (left + k) = omega arith in
     rw many (omega arith)
 
-payload-small : (body : List ℕ) → length (payloadField body) ≤ 1 + 2 * length body
+payload-small : (body : List ℕ) → length (hexField body) ≤ 1 + 2 * length body
 unfolding ascii
 payload-small [] = omega arith
 payload-small (b ∷ bs) = omega (arith, hex-long (b ∷ bs))

@@ -11,10 +11,10 @@ use Rattle.table.specs.declared.rules.Rules.{Rules}
 use Rattle.table.specs.Table.{nameOf}
 use Rattle.text.specs.Characters.{ascii}
 use Rattle.text.specs.Decimal.{decimal}
-use Rattle.text.specs.Hex.{hexByte}
+use Rattle.text.specs.Hex.{hexByte, hexField}
 use Rattle.text.specs.Lines.{joined, line}
 use Rattle.walk.specs.Walk.{placed, end, stop}
-use Rattle.listings.specs.Listing.{channels, letterOf, payloadField, commandLine, lastLine}
+use Rattle.listings.specs.Listing.{channels, letterOf, commandLine, lastLine}
 use Rattle.listings.specs.Passes.{before, behind, isCounted}
 use Rattle.listings.proofs.Lining.{before-long, command-long, command-parts, counted-long, end-long, letter-long, stop-long}
 
@@ -50,14 +50,14 @@ module _ (rules : Rules) (at cid : ℕ) (out : List ℕ) (to : ℕ) where
     first : Puts out to (before rules at cid) n1 o1
     first = puts-of (before-room body h) e1
 
-    module _ {n2 : ℕ} {o2 : List ℕ} (e2 : Left n2 o2 o1 n1 (payloadField body)) where
-      second : Puts out to (before rules at cid ++ payloadField body) n2 o2
-      second = puts-more (payloadField body) first (omega (arith, before-long rules at cid, command-long rules at cid body)) e2
+    module _ {n2 : ℕ} {o2 : List ℕ} (e2 : Left n2 o2 o1 n1 (hexField body)) where
+      second : Puts out to (before rules at cid ++ hexField body) n2 o2
+      second = puts-more (hexField body) first (omega (arith, before-long rules at cid, command-long rules at cid body)) e2
 
       pub behind-room : n2 + length (behind (isCounted rules cid) (channels body)) ≤ length o2
       behind-room =
           let b = second .behind in
-          omega (arith, puts-length second, length-append (before rules at cid) (payloadField body), before-long rules at cid, command-long rules at cid body)
+          omega (arith, puts-length second, length-append (before rules at cid) (hexField body), before-long rules at cid, command-long rules at cid body)
 
       pub command-put : {n3 : ℕ} {o3 : List ℕ} → Left n3 o3 o2 n2 (behind (isCounted rules cid) (channels body)) → Left n3 o3 out to (line (commandLine rules (placed at cid body)))
       command-put {n3} {o3} e3 =

@@ -16,11 +16,11 @@ use Rattle.text.specs.Decimal.{decimal}
 use Rattle.text.specs.Hex.{hexByte, hexOf}
 use Rattle.text.specs.Lines.{Line, Plain, PlainLine, PlainText}
 use Rattle.text.proofs.Decimals.{decimal-injective, decimal-plain}
-use Rattle.text.proofs.Hexes.{hex-injective, hex-long, hex-plain}
+use Rattle.text.proofs.Hexes.{hex-injective, hex-plain, field-injective, field-plain}
 use Rattle.text.proofs.Lines.{head-is, tail-is, text-apart, visible, visible-plain}
 use Rattle.text.proofs.Naming.{namesPass, every-name}
 use Rattle.walk.specs.Walk.{Cmd, Placed, Ending, end, stop, Walk, finish, after}
-use Rattle.listings.specs.Listing.{channels, letterOf, payloadField, commandLine, lastLine, linesOf}
+use Rattle.listings.specs.Listing.{channels, letterOf, commandLine, lastLine, linesOf}
 use Rattle.listings.specs.Passes.{isCounted}
 use Rattle.listings.specs.Telling.{TextFixesWalk}
 
@@ -46,11 +46,6 @@ byte-plain : (b : ℕ) → Plain (hexByte b)
 unfolding hexOf
 byte-plain b = hex-plain (b ∷ [])
 
-payload-plain : (body : List ℕ) → Plain (payloadField body)
-unfolding ascii visible
-payload-plain [] = visible-plain (ascii "-") refl
-payload-plain (b ∷ bs) = hex-plain (b ∷ bs)
-
 last-plain : (e : Ending) → PlainLine (lastLine e)
 unfolding ascii visible
 last-plain (end at) = (decimal-plain at, (visible-plain (ascii "end") refl, tt))
@@ -59,13 +54,13 @@ last-plain (stop number at) = (decimal-plain at, (visible-plain (ascii "stop") r
 module _ (rules : Rules) where
   command-plain : (p : Placed) → PlainLine (commandLine rules p)
   command-plain p =
-      (decimal-plain (p .at), (letter-plain (rules .direction), (byte-plain (p .cmd .cid), (name-plain rules (p .cmd .cid), (payload-plain (p .cmd .body), count-plain (isCounted rules (p .cmd .cid)))))))
+      (decimal-plain (p .at), (letter-plain (rules .direction), (byte-plain (p .cmd .cid), (name-plain rules (p .cmd .cid), (field-plain (p .cmd .body), count-plain (isCounted rules (p .cmd .cid)))))))
     where
       count-plain : (b : Bool) → Every Plain (cond b (decimal (channels (p .cmd .body)) ∷ []) [])
       count-plain true = (decimal-plain (channels (p .cmd .body)), tt)
       count-plain false = tt
 
-  lines-plain : (ps : List Placed) (e : Ending) → PlainText (linesOf rules ps e)
+  pub lines-plain : (ps : List Placed) (e : Ending) → PlainText (linesOf rules ps e)
   unfolding linesOf
   lines-plain [] e = (last-plain e, tt)
   lines-plain (p ∷ ps) e = (command-plain p, lines-plain ps e)
@@ -75,14 +70,6 @@ module _ (rules : Rules) where
 byte-fixed : (a b : ℕ) → hexByte a ≡ hexByte b → a ≡ b
 unfolding hexOf
 byte-fixed a b e = head-is (hex-injective (a ∷ []) (b ∷ []) e)
-
--- a dash is one character, and bytes have two each
-payload-fixed : (a b : List ℕ) → payloadField a ≡ payloadField b → a ≡ b
-unfolding ascii
-payload-fixed [] [] e = refl
-payload-fixed [] (y ∷ b) e = absurd (omega (arith, ap length e, hex-long (y ∷ b)))
-payload-fixed (x ∷ a) [] e = absurd (omega (arith, ap length e, hex-long (x ∷ a)))
-payload-fixed (x ∷ a) (y ∷ b) e = hex-injective (x ∷ a) (y ∷ b) e
 
 -- a line's fields behind its first: one of them, and how many there are
 abbrev field : ℕ → Line → List ℕ
@@ -104,7 +91,7 @@ module _ (rules : Rules) where
       ap₂ (λ (at : ℕ) (c : Cmd). record { at = at; cmd = c }) (decimal-injective (p .at) (q .at) (ap (λ (l : Line). l .first) e))
       (ap₂ (λ (cid : ℕ) (body : List ℕ). record { cid = cid; body = body })
       (byte-fixed (p .cmd .cid) (q .cmd .cid) (ap (field 1) e))
-      (payload-fixed (p .cmd .body) (q .cmd .body) (ap (field 3) e)))
+      (field-injective (p .cmd .body) (q .cmd .body) (ap (field 3) e)))
 
   -- a command's line has more fields than a last line
   no-last : (p : Placed) (e : Ending) → commandLine rules p ≡ lastLine e → ⊥

@@ -13,17 +13,12 @@ use Rattle.fields.specs.Places.{bytesAt, LinkADRReq·channelMask}
 use Rattle.walk.specs.Walk.{Placed, Ending, end, stop, Walk, walkOf}
 use Rattle.text.specs.Characters.{ascii}
 use Rattle.text.specs.Decimal.{decimal}
-use Rattle.text.specs.Hex.{hexByte, hexOf}
+use Rattle.text.specs.Hex.{hexByte, hexField}
 use Rattle.text.specs.Lines.{Line, text}
 
 abbrev pub letterOf : Direction → String
 letterOf Down = "D"
 letterOf Up = "U"
-
--- L5: a payload's bytes in hex, and a dash where it has none
-abbrev pub payloadField : List ℕ → List ℕ
-payloadField [] = ascii "-"
-payloadField (b ∷ bs) = hexOf (b ∷ bs)
 
 -- the channels that the mask of a LinkADRReq switches on
 abbrev pub channels : List ℕ → ℕ
@@ -38,7 +33,7 @@ abbrev pub commandLine : Rules → Placed → Line
 commandLine rules p = record {
   first = decimal (p .at);
   more =
-      ascii (letterOf (rules .direction)) ∷ hexByte (p .cmd .cid) ∷ ascii (nameOf rules (p .cmd .cid)) ∷ payloadField (p .cmd .body)
+      ascii (letterOf (rules .direction)) ∷ hexByte (p .cmd .cid) ∷ ascii (nameOf rules (p .cmd .cid)) ∷ hexField (p .cmd .body)
       ∷ countField (nameOf rules (p .cmd .cid)) (p .cmd .body);
 }
 

@@ -23,8 +23,9 @@ ghost use Rattle.walk.specs.Step.{stepAt};
 ghost use Rattle.walk.specs.Told.{toldStep};
 ghost use Rattle.walk.specs.Walk.{placed, end, stop};
 ghost use Rattle.text.specs.Characters.{ascii};
+ghost use Rattle.text.specs.Hex.{hexField};
 ghost use Rattle.text.specs.Lines.{line};
-ghost use Rattle.listings.specs.Listing.{channels, letterOf, payloadField, commandLine, lastLine};
+ghost use Rattle.listings.specs.Listing.{channels, letterOf, commandLine, lastLine};
 ghost use Rattle.listings.specs.Passes.{bodyAt, stepLine, before, behind, isCounted, Stands};
 
 fn letter(rules: Rules) -> u8
@@ -124,7 +125,7 @@ fn put_before(rules: Rules, out: &mut [u8], to: usize, at: usize, cid: u8) -> us
 
 fn put_payload(out: &mut [u8], to: usize, stream: &[u8], at: usize, len: usize) -> usize
     requires { ⌜ at + 1 + len ≤ length (now stream) ⌝ }
-    ensures { λ r. ⌜ (r, now (out .exit)) ≡ writtenAt (now (out .entry)) to (payloadField (bodyAt (now (stream .entry)) at len)) ⌝ }
+    ensures { λ r. ⌜ (r, now (out .exit)) ≡ writtenAt (now (out .entry)) to (hexField (bodyAt (now (stream .entry)) at len)) ⌝ }
 {
     if len == 0 {
         return put_byte(out, to, b'-');

@@ -5,12 +5,13 @@ use mathlib.Core.List.{List, [], _∷_, _++_}
 use mathlib.Core.Logic.{inl, inr}
 use mathlib.Core.Path.{_≡_, refl, sym, ap, ap₂, _∙_}
 use native.Mathlib.Omega.{arith}
-use lib.Dec.{ltb}
+use lib.Dec.{eqb, ltb}
 use lib.ListN.{length}
-use borrow.Author.Tests.{ltb-true, ltb-false, lt-ltb, le-ltb}
+use borrow.Author.Tests.{ltb-true, ltb-false, lt-ltb, le-ltb, ne-eqb}
 use Rattle.bits.specs.Bits.{Byte}
 use Rattle.bits.specs.Every.{Every}
-use Rattle.text.specs.Hex.{hexDigit, hexByte, hexOf, HexDigit, Pairs, digitValue, bytesOf}
+use Rattle.text.specs.Characters.{ascii}
+use Rattle.text.specs.Hex.{hexDigit, hexByte, hexOf, HexDigit, Pairs, digitValue, bytesOf, hexField}
 use Rattle.text.specs.Lines.{Plain}
 
 -- ---- one digit
@@ -117,3 +118,23 @@ hex-plain (b ∷ s) =
     let p = digit-large (b / 16) in
     let q = digit-large (b % 16) in
     (λ e. omega arith, λ e. omega arith, (λ e. omega arith, λ e. omega arith, hex-plain s))
+
+-- ---- as a field
+
+pub field-long : (s : List ℕ) → length (hexField s) ≡ cond (eqb (length s) 0) 1 (2 * length s)
+unfolding ascii
+field-long [] = refl
+field-long (b ∷ bs) = hex-long (b ∷ bs) ∙ sym (simp (ne-eqb (length (b ∷ bs)) 0 (λ e. omega arith)))
+
+pub field-plain : (s : List ℕ) → Plain (hexField s)
+unfolding ascii
+field-plain [] = (λ e. omega arith, λ e. omega arith, tt)
+field-plain (b ∷ bs) = hex-plain (b ∷ bs)
+
+-- a dash is one character, and bytes have two each
+pub field-injective : (s t : List ℕ) → hexField s ≡ hexField t → s ≡ t
+unfolding ascii
+field-injective [] [] e = refl
+field-injective [] (y ∷ t) e = absurd (omega (arith, ap length e, hex-long (y ∷ t)))
+field-injective (x ∷ s) [] e = absurd (omega (arith, ap length e, hex-long (x ∷ s)))
+field-injective (x ∷ s) (y ∷ t) e = hex-injective (x ∷ s) (y ∷ t) e

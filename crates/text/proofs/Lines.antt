@@ -115,3 +115,30 @@ unfolding text joined
 parted [] h = ([], (tt, refl))
 parted (c ∷ []) h = (record { first = []; more = [] } ∷ [], (((tt, tt), tt), ap (λ (x : ℕ). x ∷ []) (sym h)))
 parted (c ∷ d ∷ s) h = let r = parted (d ∷ s) h in some-line c d s (r .0) (r .1 .0) (r .1 .1)
+
+-- ---- and every text of lines ends so
+
+ended-front : (s : List ℕ) (c : ℕ) (t : List ℕ) → Ended (c ∷ t) → Ended (s ++ (c ∷ t))
+ended-front [] c t h = h
+ended-front (x ∷ []) c t h = h
+ended-front (x ∷ y ∷ s) c t h = ended-front (y ∷ s) c t h
+
+ended-newline : (t : List ℕ) → Ended t → Ended (10 ∷ t)
+ended-newline [] h = refl
+ended-newline (c ∷ t) h = h
+
+ended-tab : (t : List ℕ) → 1 ≤ length t → Ended t → Ended (9 ∷ t)
+ended-tab [] l h = absurd (omega arith)
+ended-tab (c ∷ t) l h = h
+
+ended-line : (f : List ℕ) (fs : List (List ℕ)) (t : List ℕ) → Ended t → Ended (joined f fs ++ t)
+unfolding joined
+ended-line f [] t h = subst Ended (sym (append-assoc f (10 ∷ []) t)) (ended-front f 10 t (ended-newline t h))
+ended-line f (g ∷ fs) t h =
+    subst Ended (sym (append-assoc f (9 ∷ joined g fs) t))
+    (ended-front f 9 (joined g fs ++ t) (ended-tab (joined g fs ++ t) (omega (arith, length-append (joined g fs) t, line-some g fs)) (ended-line g fs t h)))
+
+pub text-ended : (ls : List Line) → Ended (text ls)
+unfolding text
+text-ended [] = tt
+text-ended (l ∷ ls) = ended-line (l .first) (l .more) (text ls) (text-ended ls)

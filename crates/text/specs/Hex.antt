@@ -4,6 +4,7 @@ use mathlib.Core.Bool.{cond}
 use mathlib.Core.List.{List, [], _∷_, _++_}
 use mathlib.Core.Logic.{_⊎_}
 use lib.Dec.{ltb}
+use Rattle.text.specs.Characters.{ascii}
 use Rattle.text.specs.Decimal.{Digit}
 
 abbrev pub hexDigit : ℕ → ℕ
@@ -15,6 +16,11 @@ hexByte b = hexDigit (b / 16) ∷ hexDigit (b % 16) ∷ []
 unfoldable pub hexOf : List ℕ → List ℕ
 hexOf [] = []
 hexOf (b ∷ s) = hexByte b ++ hexOf s
+
+-- as a field, in which a dash stands for no bytes
+abbrev pub hexField : List ℕ → List ℕ
+hexField [] = ascii "-"
+hexField (b ∷ bs) = hexOf (b ∷ bs)
 
 -- ---- reading
 

@@ -21,8 +21,10 @@ pub record BytesBack : Type 0 where
   pub bytes : (s : List ℕ) → Pairs s → Every Byte (bytesOf s)
   pub only : (s : List ℕ) → Pairs s → hexOf (bytesOf s) ≡ s
 
--- a line's fields can be told apart again, whatever stands behind the line, and so can a text's lines; and what ends in a newline is some lines' text
+-- a line's fields can be told apart again, whatever stands behind the line, and so can a text's lines; and the texts of lines are those that end in
+-- a newline
 pub record ToldApart : Type 0 where
   pub lines : (l m : Line) (x y : List ℕ) → PlainLine l → PlainLine m → line l ++ x ≡ line m ++ y → (l ≡ m) × (x ≡ y)
   pub texts : (ls ms : List Line) → PlainText ls → PlainText ms → text ls ≡ text ms → ls ≡ ms
+  pub ended : (ls : List Line) → Ended (text ls)
   pub parted : (t : List ℕ) → Ended t → (ls : List Line) × (PlainText ls × (text ls ≡ t))

@@ -7,7 +7,8 @@ use native.Mathlib.Omega.{arith}
 use lib.Dec.{eqb}
 use Rattle.table.proofs.Lengths.{at-most-five}
 use Rattle.listings.specs.Passes.{bodyAt, isCounted}
-use Rattle.listings.proofs.Lining.{behind-few, body-long, command-long, digits-few, name-few, payload-few, payload-long}
+use Rattle.text.proofs.Hexes.{field-long}
+use Rattle.listings.proofs.Lining.{behind-few, body-long, command-long, digits-few, name-few, payload-few}
 use Rattle.listings.proofs.line.command_len.Statement.{statement}
 use Rattle.listings.proofs.line.command_len.Tie as tie
 
@@ -45,7 +46,7 @@ returns c =
     let p = c .before .before .before .decimal-len .ensures in
     let q = c .before .before .name-len .ensures in
     let t = c .behind-len .ensures in
-    let r = c .before .payload-len .ensures ∙ ap (λ (n : ℕ). cond (eqb n 0) 1 (2 * n)) (sym (body-long (a .stream .now) (a .at) (a .len) (i .pre .fits))) ∙ sym (payload-long (bodyAt (a .stream .now) (a .at) (a .len))) in
+    let r = c .before .payload-len .ensures ∙ ap (λ (n : ℕ). cond (eqb n 0) 1 (2 * n)) (sym (body-long (a .stream .now) (a .at) (a .len) (i .pre .fits))) ∙ sym (field-long (bodyAt (a .stream .now) (a .at) (a .len))) in
     omega (arith, command-long (a .rules) (a .at) (a .cid) (bodyAt (a .stream .now) (a .at) (a .len)))
 
 pub command-len-spec : {M : Type 1} → statement M
