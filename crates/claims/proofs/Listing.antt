@@ -24,7 +24,7 @@ use Rattle.listings.specs.Listing.{linesOf, listingOf}
 use Rattle.listings.specs.Told.{toldListing}
 use Rattle.listings.proofs.Into.{into-room, into-none}
 use Rattle.listings.proofs.Telling.{text-fixes-walk}
-use Rattle.claims.specs.Listing.{Lists, Sizes, Written, SaysWhatIsRead, TextFixes, Example, Shown, ListingsTell, examples}
+use Rattle.claims.specs.Listing.{Lists, Sizes, TextIs, SaysWhatIsRead, TextFixes, Example, Shown, ListingsTell, examples}
 use Rattle.claims.specs.Handing.{ReadAs}
 use Rattle.claims.proofs.Handing as Handing
 use Rattle.claims.proofs.Keeping.{both}
@@ -42,7 +42,7 @@ module _ (rules : Rules) (stream : RefT (List ℕ)) where
   sizes : (a : Answer ℕ) → Sizes rules stream a → a ≡ lengthWithin largest all
   sizes a l = sym (l .told) ∙ l .admitted .1 .1
 
-  written-all : Written rules stream all
+  written-all : TextIs rules stream all
   unfolding lengthWithin
   written-all = record {
     room = λ out a after l h. let e = both (lists out a after l ∙ into-room all (now out) h) in (e .0, e .1 ∙ over-front (now out) all);
@@ -89,7 +89,7 @@ text-fixes rules s t o p n after after' l l' e =
 -- an example whose text is what is defined
 shown-by : (e : Example) → listingOf (record { direction = e .direction }) (e .bytes) ≡ ascii (e .shown) → Shown e
 shown-by e p stream q =
-    subst (Written (record { direction = e .direction }) stream) (ap (listingOf (record { direction = e .direction })) q ∙ p) (written-all (record { direction = e .direction }) stream)
+    subst (TextIs (record { direction = e .direction }) stream) (ap (listingOf (record { direction = e .direction })) q ∙ p) (written-all (record { direction = e .direction }) stream)
 
 abbrev Defined : Example → Type 0
 Defined e = listingOf (record { direction = e .direction }) (e .bytes) ≡ ascii (e .shown)

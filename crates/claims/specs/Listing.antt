@@ -37,7 +37,7 @@ pub record Sizes (rules : Rules) (stream : RefT (List ℕ)) (a : Answer ℕ) : T
 -- the text of a stream, whatever way it came about: where there is room it stands at the front, its length is the answer, and the bytes behind it
 -- stay (L7); else the answer is refusal 4, and memory is as it was (L8). Asked alone, the length is the same, and refusal 4 where no memory
 -- could hold the text (L9)
-pub record Written (rules : Rules) (stream : RefT (List ℕ)) (t : List ℕ) : Type 0 where
+pub record TextIs (rules : Rules) (stream : RefT (List ℕ)) (t : List ℕ) : Type 0 where
   pub room : (out : RefT (List ℕ)) (a : Answer ℕ) (after : List ℕ) → Lists rules stream out a after → length t ≤ length (now out)
       → (a ≡ given (length t)) × (after ≡ t ++ drop (length t) (now out))
   pub no-room : (out : RefT (List ℕ)) (a : Answer ℕ) (after : List ℕ) → Lists rules stream out a after → length (now out) < length t
@@ -51,7 +51,7 @@ pub record SaysWhatIsRead (rules : Rules) (stream : RefT (List ℕ)) : Type 2 wh
   pub cmds : List Placed
   pub ending : Ending
   pub read : ReadAs rules stream cmds ending
-  pub lines : Written rules stream (text (linesOf rules cmds ending))
+  pub lines : TextIs rules stream (text (linesOf rules cmds ending))
 
 -- L11: where the same text is written of two streams, the same is read of both
 pub record ReadAlike (rules : Rules) (s t : RefT (List ℕ)) : Type 2 where
@@ -91,7 +91,7 @@ examples =
     example Up (0x02 ∷ 0x80 ∷ []) "0\tU\t02\tLinkCheckReq\t-\n1\tstop\t1\n" ∷ []
 
 abbrev pub Shown : Example → Type 0
-Shown e = (stream : RefT (List ℕ)) → now stream ≡ e .bytes → Written (record { direction = e .direction }) stream (ascii (e .shown))
+Shown e = (stream : RefT (List ℕ)) → now stream ≡ e .bytes → TextIs (record { direction = e .direction }) stream (ascii (e .shown))
 
 pub record ListingsTell : Type 2 where
   pub says-what-is-read : (rules : Rules) (stream : RefT (List ℕ)) → SaysWhatIsRead rules stream
