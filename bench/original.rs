@@ -49,7 +49,8 @@ alone! {
 alone! {
     reading,
 
-    /// Every field of every command once, added up modulo 2^32: a mask by its banks, a duty cycle by its number and by its fraction's bits.
+    /// Every field of every command once, added up modulo 2^32: a mask by its banks, a duty cycle by its number and by its fraction's bits. The
+    /// seconds are the standard's and the port's: what the original reads, with its bytes in the other order.
     #[inline(never)]
     pub fn fields(stream: &[u8], _: usize) -> u64 {
         let mut sum = 0u32;
@@ -86,7 +87,7 @@ alone! {
                 p.downlink_dwell_time() as u32 + p.uplink_dwell_time() as u32 + p.max_eirp() as u32
             }
             DownlinkMacCommand::DlChannelReq(p) => p.channel_index() as u32 + p.frequency().value(),
-            DownlinkMacCommand::DeviceTimeAns(p) => p.seconds().wrapping_add(p.nano_seconds()),
+            DownlinkMacCommand::DeviceTimeAns(p) => p.seconds().swap_bytes().wrapping_add(p.nano_seconds()),
         }
     }
 }

@@ -26,6 +26,12 @@ impl Case {
         Ok(Case { answer, original: Original::Agrees })
     }
 
+    /// The port's answer beside the original's: a case of this class, where they are not the same.
+    pub fn beside(answer: Vec<u8>, said: Vec<u8>, class: u8) -> Judged {
+        let original = if said == answer { Original::Agrees } else { Original::Said(class, said) };
+        Ok(Case { answer, original })
+    }
+
     /// The number of the difference that the case belongs to; 0 where there is none.
     pub fn class(&self) -> u8 {
         match self.original {

@@ -28,6 +28,11 @@ pub const LONG_LIST: u8 = 13;
 pub const SHORT_AS_WELL: u8 = 14;
 pub const OVERSTATED_RECORD: u8 = 15;
 pub const TYPED_RECORD: u8 = 16;
+pub const FLAG_DOWN: u8 = 17;
+pub const HIGH_FIRST: u8 = 18;
+
+/// The classes of functions that the port leaves behind.
+pub const LEFT_BEHIND: [u8; 4] = [RAW_PAYLOAD, RAW_FREQUENCY, RAW_MASK, OTHER_STATUSES];
 
 pub const ALL: &[Class] = &[
     Class {
@@ -125,6 +130,18 @@ pub const ALL: &[Class] = &[
         what: "a record of UplinkMacCommandCreator or DownlinkMacCommandCreator over a default image. The Rust takes the type's CID; the image's first byte",
         entry: entries::CREATOR,
         smallest: &[1],
+    },
+    Class {
+        number: FLAG_DOWN,
+        what: "the flag of DevStatusAns, of the type and of each one that a walk hands out. The Rust says that it is not sent up; that it is",
+        entry: entries::PAYLOAD + 9,
+        smallest: &[],
+    },
+    Class {
+        number: HIGH_FIRST,
+        what: "the seconds of DeviceTimeAns, where their bytes don't read the same both ways. The Rust takes the high byte first; the low one",
+        entry: entries::PAYLOAD + 18,
+        smallest: &[0, 0, 0, 1, 0],
     },
 ];
 

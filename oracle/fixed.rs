@@ -23,7 +23,9 @@ pub fn list(batch: &mut Batch) {
     batch.comment("The smallest input of each class");
     for class in classes::ALL {
         batch.ask(class.entry, class.smallest);
-        batch.ask_left_behind(class.entry, class.smallest);
+        if classes::LEFT_BEHIND.contains(&class.number) {
+            batch.ask_left_behind(class.entry, class.smallest);
+        }
     }
 
     batch.comment("As many records as a list may have, and one more");

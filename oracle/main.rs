@@ -21,6 +21,7 @@ mod maccommandcreator;
 #[allow(dead_code, unexpected_cfgs, mismatched_lifetime_syntaxes)]
 mod maccommands;
 mod masks;
+mod mended;
 mod parser;
 mod payloads;
 mod random;

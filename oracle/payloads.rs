@@ -7,9 +7,32 @@ use crate::case::{caught, four, Case, Judged, Original};
 use crate::classes;
 use crate::fields::read_frequency;
 use crate::maccommands::*;
-use crate::table::COMMANDS;
+use crate::mended;
+use crate::table::{self, Command, COMMANDS};
 
 type Judge = fn(&[u8]) -> Judged;
+
+/// Which command a type says that it is, and its flag as the port has it.
+fn heading(cid: u8, uplink: bool, len: usize) -> Result<(Command, u8), String> {
+    let command = table::find(cid, len).ok_or("a type that is no command of the table")?;
+    Ok((command, u8::from(mended::uplink(command, uplink)?)))
+}
+
+/// The original's answer beside the port's, which has another flag for DevStatusAns and other seconds for DeviceTimeAns.
+fn judged(said: Vec<u8>) -> Judged {
+    let (command, flag) = heading(said[0], said[1] != 0, usize::from(said[2]))?;
+    let mut answer = said.clone();
+    answer[1] = flag;
+    if table::name(command) != "DeviceTimeAns" {
+        return Case::beside(answer, said, classes::FLAG_DOWN);
+    }
+    // Behind a verdict that accepts stand the five bytes, and the seconds in four.
+    if let [_, _, _, 0, a, b, c, d, _, seconds @ ..] = &mut answer[..] {
+        let read = u32::from_be_bytes([seconds[0], seconds[1], seconds[2], seconds[3]]);
+        seconds[..4].copy_from_slice(&four(mended::seconds([*a, *b, *c, *d], read)? as usize));
+    }
+    Case::beside(answer, said, classes::HIGH_FIRST)
+}
 
 /// A payload type with bytes: `new`, and `new_from_raw` on another length.
 macro_rules! sized {
@@ -25,7 +48,7 @@ macro_rules! sized {
                     $readers
                 }
             }
-            Case::agreed($answer)
+            judged($answer)
         }
 
         fn $raw($input: &[u8]) -> Judged {
@@ -40,7 +63,8 @@ macro_rules! sized {
                 Some(said) if $input.len() > $type::len() => Original::Said(classes::RAW_PAYLOAD, said),
                 _ => return Err("reading every field panics other than on fewer bytes than the type's length".to_string()),
             };
-            Ok(Case { answer: vec![$type::cid(), u8::from($type::uplink()), $type::len() as u8, 3], original })
+            let (_, flag) = heading($type::cid(), $type::uplink(), $type::len())?;
+            Ok(Case { answer: vec![$type::cid(), flag, $type::len() as u8, 3], original })
         }
     };
 }
@@ -54,7 +78,7 @@ macro_rules! empty {
             if !$type::new_from_raw(input).bytes().is_empty() {
                 return Err("new_from_raw shows bytes of an empty payload".to_string());
             }
-            Case::agreed(answer)
+            judged(answer)
         }
     };
 }

@@ -17,7 +17,8 @@ use crate::maccommands::{
     parse_downlink_mac_commands, parse_uplink_mac_commands, DownlinkMacCommand, MacCommandIterator, SerializableMacCommand,
     UplinkMacCommand,
 };
-use crate::table::Direction;
+use crate::mended;
+use crate::table::{self, Direction};
 
 /// What both command enums answer beside `SerializableMacCommand`.
 trait Command: SerializableMacCommand {
@@ -47,6 +48,26 @@ macro_rules! command {
 command!(DownlinkMacCommand);
 command!(UplinkMacCommand);
 
+/// What the port and the original tell of the commands that a walk has handed out: the same, but for the flag of DevStatusAns.
+#[derive(Default)]
+struct List {
+    port: Vec<u8>,
+    original: Vec<u8>,
+}
+
+impl List {
+    fn add(&mut self, at: usize, command: &impl Command) -> Result<(), String> {
+        let (cid, len, said) = (command.cid(), command.len(), command.uplink());
+        let known = table::find(cid, len).ok_or("a command that the table has not")?;
+        for (list, flag) in [(&mut self.port, mended::uplink(known, said)?), (&mut self.original, said)] {
+            list.extend(two(at));
+            list.extend([cid, u8::from(flag), len as u8]);
+            list.extend(command.bytes());
+        }
+        Ok(())
+    }
+}
+
 pub fn down(input: &[u8]) -> Judged {
     walk(Direction::Down, input, parse_downlink_mac_commands(input))
 }
@@ -60,7 +81,7 @@ where
     MacCommandIterator<'a, C>: Iterator<Item = C>,
 {
     let mut count = 0;
-    let mut list = Vec::new();
+    let mut list = List::default();
     loop {
         let at = commands.index;
         let command = match caught(|| commands.next()) {
@@ -77,9 +98,7 @@ where
             return Err("a command's record is not its bytes".to_string());
         }
         count += 1;
-        list.extend(two(at));
-        list.extend([command.cid(), u8::from(command.uplink()), command.len() as u8]);
-        list.extend(command.bytes());
+        list.add(at, &command)?;
     }
 }
 
@@ -107,18 +126,19 @@ fn panic_at(direction: Direction, stream: &[u8], at: usize) -> Result<(), String
     }
 }
 
-fn ended(direction: Direction, stream: &[u8], at: usize, count: usize, list: &[u8]) -> Judged {
+/// A line has one class: that of its ending, and where its ending is of none, that of the flags.
+fn ended(direction: Direction, stream: &[u8], at: usize, count: usize, list: &List) -> Judged {
     let (reason, class) = none_at(direction, stream, at)?;
-    let answer = [&told(count, reason, at), list].concat();
+    let answer = [&told(count, reason, at)[..], &list.port].concat();
     match class {
-        None => Case::agreed(answer),
+        None => Case::beside(answer, [&told(count, 0, at)[..], &list.original].concat(), classes::FLAG_DOWN),
         Some(class) => Ok(Case { answer, original: Original::Said(class, told(count, 0, at)) }),
     }
 }
 
-fn stopped_by_panic(direction: Direction, stream: &[u8], at: usize, count: usize, list: &[u8]) -> Judged {
+fn stopped_by_panic(direction: Direction, stream: &[u8], at: usize, count: usize, list: &List) -> Judged {
     panic_at(direction, stream, at)?;
-    let answer = [&told(count, 2, at), list].concat();
+    let answer = [&told(count, 2, at)[..], &list.port].concat();
     Ok(Case { answer, original: Original::Panicked(classes::CUT_EXACT) })
 }
 

@@ -8,7 +8,7 @@ use native.Mathlib.Decide.{ℕ-discrete}
 use native.Mathlib.Omega.{arith}
 use lib.Dec.{eqb, ltb}
 use lib.ListN.{length, getD, take, drop, length-set, List·getD-append}
-use lib.Seq.{getD-set-same, getD-set-other, getD-drop, getD-take, drop-drop, drop-at, take-at, take-all, drop-paste, length-take-le}
+use lib.Seq.{getD-set-same, getD-set-other, getD-drop, getD-take, drop-drop, drop-at, take-at, take-all, drop-paste, length-paste, length-take-le}
 use borrow.Author.Tests.{ltb-true}
 use Rattle.bits.specs.Bits.{field, setField, bitOn, bitOf}
 use Rattle.bits.proofs.Laws.{read-put, put-leaves}
@@ -110,6 +110,10 @@ reads-within p image v here byte =
 -- ---- a run of bytes
 
 module _ (r : Run) (image bytes : List ℕ) (here : 1 + r .byte + r .count ≤ length image) (fits : r .count ≡ length bytes) where
+  pub length-run : length (putBytes r image bytes) ≡ length image
+  unfolding putBytes
+  length-run = length-paste image (1 + r .byte) bytes (r .count) here (omega arith)
+
   pub reads-run : bytesAt r (payloadOf (putBytes r image bytes)) ≡ bytes
   unfolding putBytes
   reads-run =

@@ -23,11 +23,11 @@ use Rattle.fields.specs.Places.{
   DeviceTimeAns·seconds,
   DeviceTimeAns·fraction,
 }
-use Rattle.payloads.specs.Meanings.{signed, marginOf, highFirst, secondsOf, nanoSecondsOf}
+use Rattle.payloads.specs.Meanings.{signed, marginOf, secondsOf, nanoSecondsOf}
 use Rattle.creators.specs.Image.{putAt, onlyIf}
 use Rattle.creators.specs.Setters.{dwellAt, isMargin, sixBits, marginAt, lowBytes, secondsAt, nanoSecondsAt}
 use Rattle.creators.proofs.Margin.{six-bits-fit, signed-six}
-use Rattle.creators.proofs.ReadBack.{payloadOf, Outside, length-put, reads, says, leaves, accepted-writes, reads-within, reads-run}
+use Rattle.creators.proofs.ReadBack.{payloadOf, Outside, length-put, reads, says, leaves, accepted-writes, reads-within, length-run, reads-run}
 
 -- ---- TXParamSetupReq
 
@@ -70,19 +70,19 @@ margin-reads image m here byte e =
 -- ---- DeviceTimeAns
 
 module _ (image : List ℕ) (s : ℕ) (here : 4 < length image) where
+  pub length-seconds : length (secondsAt image s) ≡ length image
+  unfolding secondsAt lowBytes
+  length-seconds = length-run DeviceTimeAns·seconds image (lowBytes 4 s) here refl
+
   -- the bytes of the number, low byte first
   pub seconds-bytes : bytesAt DeviceTimeAns·seconds (payloadOf (secondsAt image s)) ≡ lowBytes 4 s
   unfolding secondsAt lowBytes
   seconds-bytes = reads-run DeviceTimeAns·seconds image (lowBytes 4 s) here refl
 
-  -- so the standard's reading, low byte first, is the number set
-  pub seconds-standard : s < 2 ^ 32 → lowFirst (bytesAt DeviceTimeAns·seconds (payloadOf (secondsAt image s))) ≡ s
+  -- so what is read is the number set
+  pub seconds-read : s < 2 ^ 32 → secondsOf (payloadOf (secondsAt image s)) ≡ s
   unfolding lowBytes
-  seconds-standard h = ap lowFirst seconds-bytes ∙ (omega arith)
-
-  -- and the Rust's, high byte first, is the number of the same bytes in the other order
-  pub seconds-read : secondsOf (payloadOf (secondsAt image s)) ≡ highFirst (lowBytes 4 s)
-  seconds-read = ap highFirst seconds-bytes
+  seconds-read h = ap lowFirst seconds-bytes ∙ (omega arith)
 
 -- of less than a second, the nanoseconds read are those set or fewer, by less than a step (RULES: K7)
 pub nanos-read : (image : List ℕ) (n : ℕ) → 5 < length image → n < 1_000_000_000

@@ -1,5 +1,5 @@
 -- The laws of the commands of each direction. Assumes nothing.
-use mathlib.Core.Bool.{false}
+use mathlib.Core.Bool.{true, false}
 use mathlib.Core.Path.{_≡_, refl}
 use lib.ListN.{length, take}
 use Rattle.table.specs.Table.{flagOf}
@@ -21,6 +21,19 @@ uplink-size (Uplink.RXTimingSetupAns p) = refl
 uplink-size (Uplink.TXParamSetupAns p) = refl
 uplink-size (Uplink.DlChannelAns p) = refl
 uplink-size (Uplink.DeviceTimeReq p) = refl
+
+-- it is sent up
+pub uplink-flag : (c : UplinkMacCommand) → true ≡ flagOf (uplinkEntry c)
+uplink-flag (Uplink.LinkCheckReq p) = refl
+uplink-flag (Uplink.LinkADRAns p) = refl
+uplink-flag (Uplink.DutyCycleAns p) = refl
+uplink-flag (Uplink.RXParamSetupAns p) = refl
+uplink-flag (Uplink.DevStatusAns p) = refl
+uplink-flag (Uplink.NewChannelAns p) = refl
+uplink-flag (Uplink.RXTimingSetupAns p) = refl
+uplink-flag (Uplink.TXParamSetupAns p) = refl
+uplink-flag (Uplink.DlChannelAns p) = refl
+uplink-flag (Uplink.DeviceTimeReq p) = refl
 
 -- five bytes are room for it: the first of them are the payload
 pub uplink-room : (c : UplinkMacCommand) → take (inFive (uplinkBytes c) .0) (inFive (uplinkBytes c) .1) ≡ uplinkBytes c

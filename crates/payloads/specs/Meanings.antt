@@ -1,12 +1,13 @@
 -- What the fields mean that are more than a number or a flag (RULES: Y5 to Y10). Where they stand is in Rattle.fields.specs.Places; what an
 -- answer's flags mean together is in Acceptance.antt, and what a frequency, a mask and the settings mean is in crate fields.
-use Prim.Native.Nat.{ℕ, _+_, _-_, _*_, _^_}
+use Prim.Native.Nat.{ℕ, _-_, _*_, _^_}
 use mathlib.Core.Bool.{false, cond}
 use mathlib.Core.List.{List, [], _∷_}
 use lib.Dec.{ltb}
 use lib.IntN.{ℤ, pos, _-ℤ_}
 use lib.Ieee.{Float, fin, minus}
-use lib.ListN.{getD, length}
+use lib.ListN.{getD}
+use Rattle.fields.specs.Lists.{lowFirst}
 use Rattle.fields.specs.Places.{
   numberAt,
   bytesAt,
@@ -52,14 +53,9 @@ maxEirpOf payload = getD powers (numberAt TXParamSetupReq·maxEirp payload) 0
 
 -- ---- DeviceTimeAns (the standard, 5.9)
 
--- the number that bytes make, high byte first
-abbrev pub highFirst : List ℕ → ℕ
-highFirst [] = 0
-highFirst (b ∷ bs) = b * 256 ^ length bs + highFirst bs
-
--- as the Rust has them (RULES: Y9). By the standard they come with the low byte first
+-- the seconds come with the low byte first (RULES: Y9)
 abbrev pub secondsOf : List ℕ → ℕ
-secondsOf payload = highFirst (bytesAt DeviceTimeAns·seconds payload)
+secondsOf payload = lowFirst (bytesAt DeviceTimeAns·seconds payload)
 
 -- a step of 1/256 second is 3,906,250 nanoseconds
 abbrev pub nanoSecondsOf : List ℕ → ℕ

@@ -68,11 +68,10 @@ impl DevStatusAnsPayload {
         0x06
     }
 
-    // Not uplink, as the Rust says, though a device sends it.
     pub fn uplink() -> bool
         ensures { λ r. ⌜ r ≡ flagOf (named "DevStatusAns") ⌝ }
     {
-        false
+        true
     }
 
     pub fn len() -> usize

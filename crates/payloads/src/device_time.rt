@@ -1,7 +1,8 @@
 use table::Refusal;
+ghost use mathlib.Core.List.{[], _∷_};
 ghost use mathlib.Core.Path.{_≡_};
 ghost use Rattle.table.specs.Table.{named, flagOf};
-ghost use Rattle.fields.specs.Lists.{exactly};
+ghost use Rattle.fields.specs.Lists.{exactly, lowFirst};
 ghost use Rattle.payloads.specs.Bytes.{DeviceTimeAns·bytes, DeviceTimeReq·bytes};
 ghost use Rattle.payloads.specs.Meanings.{nanoSecondsOf, secondsOf};
 ghost use Rattle.payloads.specs.Told.{toldDeviceTimeAns};
@@ -40,6 +41,13 @@ impl DeviceTimeReqPayload {
     {
         []
     }
+}
+
+// The number that four bytes make, low byte first.
+fn low_first(a: u8, b: u8, c: u8, d: u8) -> u32
+    ensures { λ r. ⌜ r ≡ lowFirst (a ∷ b ∷ c ∷ d ∷ []) ⌝ }
+{
+    (a as u32) + 256 * (b as u32) + 65536 * (c as u32) + 16777216 * (d as u32)
 }
 
 // Tells the network time: the seconds, and steps of 1/256 second.
@@ -95,10 +103,7 @@ impl DeviceTimeAnsPayload {
     pub fn seconds(self) -> u32
         ensures { λ r. ⌜ r ≡ secondsOf (DeviceTimeAns·bytes self) ⌝ }
     {
-        16777216 * (self.0 as u32)
-            + 65536 * (self.1 as u32)
-            + 256 * (self.2 as u32)
-            + (self.3 as u32)
+        low_first(self.0, self.1, self.2, self.3)
     }
 
     // The rest of the network time.

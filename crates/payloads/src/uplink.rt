@@ -48,18 +48,7 @@ impl UplinkMacCommand {
     pub fn uplink(self) -> bool
         ensures { λ r. ⌜ r ≡ flagOf (uplinkEntry self) ⌝ }
     {
-        match self {
-            UplinkMacCommand::LinkCheckReq(_) => true,
-            UplinkMacCommand::LinkADRAns(_) => true,
-            UplinkMacCommand::DutyCycleAns(_) => true,
-            UplinkMacCommand::RXParamSetupAns(_) => true,
-            UplinkMacCommand::DevStatusAns(_) => false,
-            UplinkMacCommand::NewChannelAns(_) => true,
-            UplinkMacCommand::RXTimingSetupAns(_) => true,
-            UplinkMacCommand::TXParamSetupAns(_) => true,
-            UplinkMacCommand::DlChannelAns(_) => true,
-            UplinkMacCommand::DeviceTimeReq(_) => true,
-        }
+        true
     }
 
     pub fn cid(self) -> u8

@@ -85,6 +85,6 @@ cited none = tt
 abbrev pub named : (n : String) → Cited (namedIn rows n)
 named n = cited (namedIn rows n)
 
--- the flag by which a command type says that it is sent up. DevStatusAns says that it is not, as in the Rust (RULES: T3)
+-- the flag by which a command type says that it is sent up: the direction in which the table, and the standard in 5, has it (RULES: T2, T3)
 abbrev pub flagOf : Command → Bool
-flagOf c = cond (eqt (c .name) (named "DevStatusAns" .name)) false (c .up)
+flagOf c = c .up

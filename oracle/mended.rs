@@ -1,0 +1,23 @@
+//! Where docs/RULES.md has what the standard says, and the original something else: what that is, and that the original says just that.
+
+use crate::table::{self, Command, Direction};
+
+/// A command says that it is sent up where the table has it so (T2, T3). Of DevStatusAns alone the original says that it is not.
+pub fn uplink(command: Command, said: bool) -> Result<bool, String> {
+    let up = table::direction(command) == Direction::Up;
+    let name = table::name(command);
+    if said == (up && name != "DevStatusAns") {
+        Ok(up)
+    } else {
+        Err(format!("a flag of {name} that no class lists"))
+    }
+}
+
+/// The seconds of DeviceTimeAns have their low byte first (Y9). The original takes the high byte first.
+pub fn seconds(bytes: [u8; 4], said: u32) -> Result<u32, String> {
+    if said == u32::from_be_bytes(bytes) {
+        Ok(u32::from_le_bytes(bytes))
+    } else {
+        Err("seconds that are not their bytes, high byte first".to_string())
+    }
+}
