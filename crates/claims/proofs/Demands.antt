@@ -4,14 +4,18 @@ use Rattle.claims.proofs.Building.{builds}
 use Rattle.claims.proofs.ByHand.{by-hand}
 use Rattle.claims.proofs.Choosing.{chooser}
 use Rattle.claims.proofs.Examples.{examples-hold}
+use Rattle.claims.proofs.Flags.{flags-tell}
 use Rattle.claims.proofs.Keeping.{refusals-keep, masks-tell}
 use Rattle.claims.proofs.Listing.{listings-tell}
 use Rattle.claims.proofs.Owning.{one-owner, next-is-step}
+use Rattle.claims.proofs.Time.{time-tells}
 
 pub demands : Demands
 demands = record {
   refusals-keep = refusals-keep;
   masks-tell = record { so = masks-tell };
+  flags-tell = record { so = flags-tell };
+  time-tells = record { so = time-tells };
   examples = examples-hold;
   one-owner = one-owner;
   next-is-step = next-is-step;

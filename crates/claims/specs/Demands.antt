@@ -1,6 +1,6 @@
--- The demands (RULES: D1 to D3), each as one statement, and what the listing tells (RULES: L). They speak of functions: each holds of every outcome
--- that the contracts of the public functions admit, so a body that is changed together with its contract can't pass unless the sentence still
--- holds of it.
+-- The demands (RULES: D1 to D3), each as one statement, and what masks, command types, the network time and the listing tell. They speak of functions:
+-- each holds of every outcome that the contracts of the public functions admit, so a body that is changed together with its contract can't pass
+-- unless the sentence still holds of it.
 use Prim.Native.Nat.{ℕ}
 use mathlib.Core.List.{List}
 use denote.Ref.{RefT}
@@ -9,15 +9,21 @@ use Rattle.claims.specs.Building.{Builds}
 use Rattle.claims.specs.ByHand.{ByHand}
 use Rattle.claims.specs.Choosing.{Chooser}
 use Rattle.claims.specs.Examples.{ExamplesHold, Lifted}
+use Rattle.claims.specs.Flags.{FlagsTell}
 use Rattle.claims.specs.Keeping.{RefusalsKeep, MasksTell}
 use Rattle.claims.specs.Listing.{ListingsTell}
 use Rattle.claims.specs.Owning.{OneOwner, NextIsStep}
+use Rattle.claims.specs.Time.{TimeTells}
 
 pub record Demands : Type 2 where
   -- D1: a refusal leaves things as they were. (That every entry takes every input, and ends, is what a proved function with no `requires` is.)
   pub refusals-keep : RefusalsKeep
   -- what a mask tells
   pub masks-tell : Lifted MasksTell
+  -- T2 and T3: what a command type tells of its direction
+  pub flags-tell : Lifted FlagsTell
+  -- Y9 and K8: the seconds that are read, and that they are those that were set
+  pub time-tells : Lifted TimeTells
   -- D2: the examples hold. (That the answers equal the Rust's is shown by runs, docs/ORACLE.md.)
   pub examples : ExamplesHold
   -- D3a to D3c: each byte of each stream has one owner

@@ -3,8 +3,10 @@ pub mod ByHand
 pub mod Choosing
 pub mod Demands
 pub mod Examples
+pub mod Flags
 pub mod Handing
 pub mod Keeping
 pub mod Listing
 pub mod Outcomes
 pub mod Owning
+pub mod Time

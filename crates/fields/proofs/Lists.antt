@@ -36,10 +36,13 @@ whole (x ∷ s) = ap (λ (l : List ℕ). x ∷ l) (whole s)
 pub elements : (n : ℕ) (s : List ℕ) → length s ≡ n → tabulate n (λ (k : ℕ). getD s k 0) ≡ s
 elements n s e = ap (λ (m : ℕ). tabulate m (λ (k : ℕ). getD s k 0)) (sym e) ∙ whole s
 
+-- a list of the right length is taken
+pub exactly-given : (n : ℕ) (s : List ℕ) → length s ≡ n → exactly n s ≡ given s
+exactly-given n s e = ap (λ b. cond b (given s) (refused 3)) (eq-eqb (length s) n e)
+
 -- what is made from the elements of a list of the right length, and of one of another
 pub exactly-made : (n : ℕ) (s : List ℕ) → length s ≡ n → given (tabulate n (λ (k : ℕ). getD s k 0)) ≡ exactly n s
-exactly-made n s e =
-    ap given (elements n s e) ∙ sym (ap (λ b. cond b (given s) (refused 3)) (eq-eqb (length s) n e))
+exactly-made n s e = ap given (elements n s e) ∙ sym (exactly-given n s e)
 
 pub exactly-refused : (n : ℕ) (s : List ℕ) → (length s ≡ n → ⊥) → refused 3 ≡ exactly n s
 exactly-refused n s h = sym (ap (λ b. cond b (given s) (refused 3)) (ne-eqb (length s) n h))
