@@ -133,13 +133,13 @@ pub const ALL: &[Class] = &[
     },
     Class {
         number: FLAG_DOWN,
-        what: "the flag of DevStatusAns, of the type and of each one that a walk hands out. The Rust says that it is not sent up; that it is",
+        what: "the flag of DevStatusAns, of the type and of one that a walk to the end hands out. The Rust says that it is not sent up; it is",
         entry: entries::PAYLOAD + 9,
         smallest: &[],
     },
     Class {
         number: HIGH_FIRST,
-        what: "the seconds of DeviceTimeAns, where their bytes don't read the same both ways. The Rust takes the high byte first; the low one",
+        what: "the seconds of DeviceTimeAns, where their bytes don't read the same both ways. The Rust takes the high byte first; the low byte is first",
         entry: entries::PAYLOAD + 18,
         smallest: &[0, 0, 0, 1, 0],
     },

@@ -1,4 +1,5 @@
-//! Where docs/RULES.md has what the standard says, and the original something else: what that is, and that the original says just that.
+//! Where docs/RULES.md follows the standard and not the original: the standard's value, and a test that the original's is the one which its class
+//! lists.
 
 use crate::table::{self, Command, Direction};
 

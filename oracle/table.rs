@@ -1,4 +1,5 @@
-//! The command table (docs/RULES.md, T1). The original's answers don't come from here: only the conditions of the listed differences do.
+//! The command table (docs/RULES.md, T1). The original's answers don't come from here: only the conditions of the listed differences do, and the
+//! flag that the port has of each command.
 
 #[derive(Clone, Copy, PartialEq)]
 pub enum Direction {

@@ -1,6 +1,6 @@
--- The demands (RULES: D1 to D3), each as one statement, and what masks, command types, the network time and the listing tell. They speak of functions:
--- each holds of every outcome that the contracts of the public functions admit, so a body that is changed together with its contract can't pass
--- unless the sentence still holds of it.
+-- The demands (RULES: D1 to D3), each as one statement, and what masks, command types, the seconds, the chooser and the listing tell. They speak of
+-- functions: each holds of every outcome that the contracts of the public functions admit, so a body that is changed together with its contract
+-- can't pass unless the sentence still holds of it.
 use Prim.Native.Nat.{ℕ}
 use mathlib.Core.List.{List}
 use denote.Ref.{RefT}
@@ -22,9 +22,9 @@ pub record Demands : Type 2 where
   pub masks-tell : Lifted MasksTell
   -- T2 and T3: what a command type tells of its direction
   pub flags-tell : Lifted FlagsTell
-  -- Y9 and K8: the seconds that are read, and that they are those that were set
+  -- Y9 and K8: the seconds as they are read and as they are set
   pub time-tells : Lifted TimeTells
-  -- D2: the examples hold. (That the answers equal the Rust's is shown by runs, docs/ORACLE.md.)
+  -- D2: the examples hold. (That the answers equal the Rust's, but for A6, is shown by runs, docs/ORACLE.md.)
   pub examples : ExamplesHold
   -- D3a to D3c: each byte of each stream has one owner
   pub one-owner : (rules : Rules) (stream : RefT (List ℕ)) → OneOwner rules stream

@@ -85,6 +85,6 @@ cited none = tt
 abbrev pub named : (n : String) → Cited (namedIn rows n)
 named n = cited (namedIn rows n)
 
--- the flag by which a command type says that it is sent up: the direction in which the table, and the standard in 5, has it (RULES: T2, T3)
+-- the flag by which a command type says whether it is sent up: as its row has it (RULES: T2, T3; the standard, 5)
 abbrev pub flagOf : Command → Bool
 flagOf c = c .up
