@@ -19,11 +19,12 @@ use Rattle.creators.specs.Setters.{lowBytes, secondsAt}
 use Rattle.creators.proofs.Setters.{length-seconds, seconds-read}
 use Rattle.claims.specs.Time.{InSeconds, TimeTells}
 
--- five bytes that are a payload
+-- a payload that was read from bytes
 in-seconds : (bytes : List ℕ) (s : ℕ) → secondsOf bytes ≡ s → (a : DeviceTimeAnsAnswer) → toldDeviceTimeAns a ≡ given bytes → InSeconds s a
 in-seconds bytes s e (DeviceTimeAnsAnswer.Read p) t = λ r g. let same : DeviceTimeAns·bytes p ≡ bytes = cc in g .1 .1 ∙ ap secondsOf same ∙ e
 in-seconds bytes s e (DeviceTimeAnsAnswer.Refused n) t = let z : _≡_ {A = ℕ} 0 1 = cc in omega arith
 
+-- what is written, byte by byte
 four-bytes : (image : List ℕ) (s : ℕ) → secondsAt image s ≡ over image 1 (s % 256 ∷ s / 256 % 256 ∷ s / 256 ^ 2 % 256 ∷ s / 256 ^ 3 % 256 ∷ [])
 unfolding secondsAt putBytes lowBytes
 four-bytes image s =
