@@ -1,10 +1,9 @@
 -- Any two outcomes that a public function's contract admits are equal. Assumes nothing.
-use mathlib.Core.Path.{_≡_, sym, ap, ap₂, _∙_}
+use mathlib.Core.Path.{sym, ap, ap₂, _∙_}
 use denote.Ref.{now}
 use Rattle.bits.proofs.Fixed.{Fixed, FixedWith}
-use Rattle.build.specs.Records.{Rec}
-use Rattle.build.specs.declared.record.Record.{Record}
-use Rattle.build.proofs.Told.{judged-tells, build-tells}
+use Rattle.build.proofs.Told.{judged-tells, build-tells, handed-tells}
+use Rattle.build.proofs.record.Record.new.Reads as new
 use Rattle.build.proofs.record.Record.none.Reads as none
 use Rattle.build.proofs.record.Record.of_uplink.Reads as of-uplink
 use Rattle.build.proofs.record.Record.of_downlink.Reads as of-downlink
@@ -13,26 +12,27 @@ use Rattle.build.proofs.record.Record.of_downlink_creator.Reads as of-d
 use Rattle.build.proofs.record.Record.judge.Reads as judge
 use Rattle.build.proofs.record.Record.write.Reads as write
 use Rattle.build.proofs.record.Record.pack.Reads as pack
+use Rattle.build.proofs.handed.record_at.Reads as record-at
 use Rattle.build.proofs.packed.mac_commands_len.Reads as mac-commands-len
 use Rattle.build.proofs.packed.build_mac_commands.Reads as build-mac-commands
 
 none-one : Fixed none.Post
 none-one _ _ _ _ _ _ p q = p ∙ sym q
 
-abbrev holding : Rec → Record
-holding r = record { cid = r .cid; len = r .len; payload = r .bytes }
+new-one : Fixed new.Post
+new-one _ _ _ _ _ _ p q = p ∙ sym q
 
 of-uplink-one : Fixed of-uplink.Post
-of-uplink-one _ _ _ _ _ _ p q = ap holding (p ∙ sym q)
+of-uplink-one _ _ _ _ _ _ p q = p ∙ sym q
 
 of-downlink-one : Fixed of-downlink.Post
-of-downlink-one _ _ _ _ _ _ p q = ap holding (p ∙ sym q)
+of-downlink-one _ _ _ _ _ _ p q = p ∙ sym q
 
 of-uplink-creator-one : Fixed of-uplink-creator.Post
-of-uplink-creator-one _ _ _ _ _ _ p q = ap holding (p ∙ sym q)
+of-uplink-creator-one _ _ _ _ _ _ p q = p ∙ sym q
 
 of-downlink-creator-one : Fixed of-downlink-creator.Post
-of-downlink-creator-one _ _ _ _ _ _ p q = ap holding (p ∙ sym q)
+of-downlink-creator-one _ _ _ _ _ _ p q = p ∙ sym q
 
 judge-one : Fixed judge.Post
 judge-one _ _ _ _ _ _ p q = judged-tells (p ∙ sym q)
@@ -42,6 +42,9 @@ write-one _ _ _ _ _ _ p q = p ∙ sym q
 
 pack-one : FixedWith (λ s. now (s .1 .0)) pack.Post
 pack-one _ _ _ _ _ _ p q = ap (λ o. (tt, o)) (p ∙ sym q)
+
+record-at-one : Fixed record-at.Post
+record-at-one _ _ _ _ _ _ p q = handed-tells (p ∙ sym q)
 
 mac-commands-len-one : Fixed mac-commands-len.Post
 mac-commands-len-one _ _ _ _ _ _ p q = build-tells (p ∙ sym q)

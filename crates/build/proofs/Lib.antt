@@ -1,4 +1,6 @@
+pub mod AsRecords
 pub mod Determined
+pub mod Equal
 pub mod Judging
 pub mod Laying
 pub mod Slots

@@ -3,7 +3,7 @@ use Prim.Native.Nat.{ℕ, _+_, _<_, _≤_}
 use mathlib.Core.Path.{_≡_, refl, sym, ap, _∙_, subst}
 use mathlib.Core.Bool.{Bool, cond}
 use mathlib.Core.Logic.{_↔_}
-use mathlib.Core.List.{List, [], _∷_, _++_}
+use mathlib.Core.List.{List, [], _∷_, _++_, map}
 use mathlib.Core.Option.{Option, some}
 use native.Mathlib.Nat.{add-zero, zero-add}
 use native.Mathlib.Decide.{decLe}
@@ -14,13 +14,15 @@ use borrow.Author.Tests.{le-leb, lt-leb}
 use Rattle.bits.specs.Memory.{over}
 use Rattle.table.specs.Answers.{Answer, given}
 use Rattle.table.specs.Answers as Answers
-use Rattle.walk.specs.Walk.{Rule, Cmd, Walk, WellFormed, end, walkOf, encode, place}
+use Rattle.walk.specs.Walk.{Rule, Cmd, Walk, WellFormed, end, walkOf, encode, place, bare}
 use Rattle.walk.proofs.Ownership as Ownership
-use Rattle.build.specs.Records.{Rec, Item, whole, part, cmdOf, cmdsOf, judged}
+use Rattle.build.specs.Records.{Rec, Item, whole, part, recsIn, cmdOf, cmdsOf, judged}
 use Rattle.build.specs.Build.{Built, total, refusedAt, refused, next, sumFrom, totalOf, fill, buildOf}
+use Rattle.build.specs.Equal.{EqualLists, asRec}
 use Rattle.build.specs.Told.{toldBuild}
 use Rattle.build.specs.declared.packed.BuildAnswer.{BuildAnswer}
 use Rattle.build.specs.ThereAndBack.{Commands, Full, WalksBack, BuildThenWalk, Accepts, LengthIsWritten, EqualBytesEqualLists}
+use Rattle.build.proofs.Equal.{commands-equal, its-commands}
 use Rattle.build.proofs.Judging.{judged-given, judged-known}
 use Rattle.build.proofs.Sums.{too-many, not-too-many}
 
@@ -133,11 +135,16 @@ module _ (L : Rule) (xs : List Item) where
       let b : List ℕ = encode (cmdsOf xs) in
       let memory : buildOf L xs out .1 ≡ encode (cmdsOf xs) ++ drop (length (encode (cmdsOf xs))) out =
       ap (λ x. x .1) (built out h c k) ∙ over-front out in
+      let back : walkOf L (take (length (encode (cmdsOf xs))) (buildOf L xs out .1))
+      ≡ record { cmds = place 0 (cmdsOf xs); ending = end (length (encode (cmdsOf xs))) } =
+      ap (walkOf L)
+      (ap (take (length (encode (cmdsOf xs)))) memory ∙ take-append-seam (encode (cmdsOf xs)) (drop (length (encode (cmdsOf xs))) out))
+      ∙ Ownership.encoded-walks-back L (cmdsOf xs) (well-formed L xs c) in
       record {
         size = ap (λ x. x .0) (built out h c k);
-        walk = ap (walkOf L)
-            (ap (take (length (encode (cmdsOf xs)))) memory ∙ take-append-seam (encode (cmdsOf xs)) (drop (length (encode (cmdsOf xs))) out))
-            ∙ Ownership.encoded-walks-back L (cmdsOf xs) (well-formed L xs c);
+        walk = back;
+        list = subst (λ (w : Walk). EqualLists (map asRec (bare (w .cmds))) (recsIn xs)) (sym back)
+            (subst (λ (cs : List Cmd). EqualLists (map asRec cs) (recsIn xs)) (sym (Ownership.bare-place 0 (cmdsOf xs))) (its-commands L xs c));
         later = ap (drop (length (encode (cmdsOf xs)))) memory
             ∙ drop-append-seam (encode (cmdsOf xs)) (drop (length (encode (cmdsOf xs))) out);
       }
@@ -155,4 +162,4 @@ module _ (L : Rule) (xs : List Item) where
 
 pub equal-bytes-equal-lists : (L : Rule) → EqualBytesEqualLists L
 equal-bytes-equal-lists L xs ys c d e =
-    Ownership.same-bytes-same-commands L (cmdsOf xs) (cmdsOf ys) (well-formed L xs c) (well-formed L ys d) e
+    commands-equal L xs ys c d (Ownership.same-bytes-same-commands L (cmdsOf xs) (cmdsOf ys) (well-formed L xs c) (well-formed L ys d) e)

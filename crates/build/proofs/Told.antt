@@ -1,17 +1,21 @@
 -- An answer of this crate is known from what it tells: each `told` has an inverse. Assumes nothing.
 use Prim.Native.Nat.{ℕ}
-use mathlib.Core.Path.{_≡_, refl, ap}
+use mathlib.Core.Path.{_≡_, refl, ap, ap₂}
 use Rattle.bits.proofs.Fixed.{by-inverse}
 use Rattle.table.specs.Answers.{Answer, given}
 use Rattle.table.specs.Answers as Answers
 use Rattle.table.specs.declared.refusal.Refusal.{Refusal}
 use Rattle.table.proofs.Told.{numbered, numbered-number}
+use Rattle.walk.specs.declared.step.Step.{Step}
+use Rattle.walk.proofs.Told.{step-tells}
+use Rattle.build.specs.declared.handed.Handed.{Handed}
+use Rattle.build.specs.declared.record.Record.{Record}
 use Rattle.build.specs.declared.record.Judged.{Judged}
 use Rattle.build.specs.declared.record.Judged.the-variants as Judged
 use Rattle.build.specs.declared.packed.BuildAnswer.{BuildAnswer}
 use Rattle.build.specs.declared.packed.BuildAnswer.the-variants as BuildAnswer
 use Rattle.build.specs.Build.{Built, total, refusedAt, refused}
-use Rattle.build.specs.Told.{toldJudged, toldBuild}
+use Rattle.build.specs.Told.{toldJudged, toldBuild, toldHanded}
 
 judgedTold : Answer ℕ → Judged
 judgedTold (given n) = Judged.Size n
@@ -38,3 +42,6 @@ build-back (BuildAnswer.Refused r) = ap BuildAnswer.Refused (numbered-number r)
 
 pub build-tells : {a b : BuildAnswer} → toldBuild a ≡ toldBuild b → a ≡ b
 build-tells p = by-inverse toldBuild buildTold build-back p
+
+pub handed-tells : {a b : Handed} → toldHanded a ≡ toldHanded b → a ≡ b
+handed-tells p = ap₂ (λ (s : Step) (r : Record). record { step = s; «record» = r }) (step-tells (ap (λ x. x .0) p)) (ap (λ x. x .1) p)

@@ -21,6 +21,12 @@ pub data Item : Type 0 where
   whole : Rec → Item
   part : Item
 
+-- the whole ones
+abbrev pub recsIn : List Item → List Rec
+recsIn [] = []
+recsIn (whole r ∷ xs) = r ∷ recsIn xs
+recsIn (part ∷ xs) = recsIn xs
+
 -- the command that a record stands for
 abbrev pub cmdOf : Rec → Cmd
 cmdOf r = record { cid = r .cid; body = take (r .len) (r .bytes) }
@@ -46,13 +52,22 @@ abbrev pub judgedItem : Rule → Item → Answer ℕ
 judgedItem L (whole r) = judged L r
 judgedItem L part = refused 3
 
--- ---- records as values
+-- ---- records as values (RULES: B5)
 
+-- the command of a record, without where it came from
 abbrev pub heldBy : Record → Rec
 heldBy r = record { cid = r .cid; len = r .len; bytes = r .payload }
 
+-- with where it came from: the number of the frame, and the offset of the CID in the frame's stream
+abbrev pub stamped : (frame offset : ℕ) → Rec → Record
+stamped frame offset r = record { cid = r .cid; payload = r .bytes; frame = frame; len = r .len; offset = offset }
+
+-- from no frame: so is the record of a command, of a creator, of a packed slot
+abbrev pub frameless : Rec → Record
+frameless r = stamped 0 0 r
+
 abbrev pub noRecord : Record
-noRecord = record { cid = 0; len = 0; payload = replicate 5 0 }
+noRecord = frameless (record { cid = 0; len = 0; bytes = replicate 5 0 })
 
 -- of a command: its CID, its payload's length, and its payload's bytes
 abbrev pub ofPayload : ℕ → ℕ × List ℕ → Rec

@@ -1,13 +1,14 @@
--- What is claimed of the build (RULES: D3d, D3e, B2, B3), for any rule and any lists. proofs/ThereAndBack.antt proves it.
+-- What is claimed of the build (RULES: D3d, D3e, B2 to B5), for any rule and any lists. proofs/ThereAndBack.antt proves it.
 use Prim.Native.Nat.{ℕ, _≤_}
 use mathlib.Core.Path.{_≡_}
 use mathlib.Core.Logic.{_↔_}
-use mathlib.Core.List.{List, [], _∷_}
+use mathlib.Core.List.{List, [], _∷_, map}
 use mathlib.Core.Option.{some}
 use lib.ListN.{length, take, drop}
-use Rattle.walk.specs.Walk.{Rule, end, walkOf, encode, place}
-use Rattle.build.specs.Records.{Rec, Item, whole, part, cmdsOf}
+use Rattle.walk.specs.Walk.{Rule, end, walkOf, encode, place, bare}
+use Rattle.build.specs.Records.{Rec, Item, whole, part, recsIn, cmdsOf}
 use Rattle.build.specs.Build.{Built, total, totalOf, buildOf}
+use Rattle.build.specs.Equal.{EqualLists, asRec}
 
 -- a list of well-formed commands: each a whole record whose length is what the rule gives its CID, with payload bytes to that length
 abbrev pub Commands : Rule → List Item → Type 0
@@ -22,12 +23,13 @@ Full L (whole r ∷ xs) = (L (r .cid) ≡ some (r .len) → r .len ≤ length (r
 Full L (part ∷ xs) = Full L xs
 
 module _ (L : Rule) (xs : List Item) where
-  -- D3d: of well-formed commands that fit, the walk of what the build wrote is the same list, and the end; and memory behind it is as it
-  -- was (B2)
+  -- D3d: of well-formed commands that fit, the walk of what the build wrote is an equal list, one behind the other, and the end; and memory
+  -- behind it is as it was (B2)
   pub record WalksBack (out : List ℕ) : Type 0 where
     pub size : buildOf L xs out .0 ≡ total (length (encode (cmdsOf xs)))
     pub walk : walkOf L (take (length (encode (cmdsOf xs))) (buildOf L xs out .1))
         ≡ record { cmds = place 0 (cmdsOf xs); ending = end (length (encode (cmdsOf xs))) }
+    pub list : EqualLists (map asRec (bare (walkOf L (take (length (encode (cmdsOf xs))) (buildOf L xs out .1)) .cmds))) (recsIn xs)
     pub later : drop (length (encode (cmdsOf xs))) (buildOf L xs out .1) ≡ drop (length (encode (cmdsOf xs))) out
 
   abbrev pub BuildThenWalk : Type 0
@@ -42,7 +44,17 @@ module _ (L : Rule) (xs : List Item) where
   abbrev pub LengthIsWritten : Type 0
   LengthIsWritten = (n : ℕ) → Full L xs → totalOf L xs ≡ total n → n ≡ length (encode (cmdsOf xs))
 
--- D3e: lists of well-formed commands that have the same bytes have the same commands (B4)
-abbrev pub EqualBytesEqualLists : Rule → Type 0
-EqualBytesEqualLists L =
-    (xs ys : List Item) → Commands L xs → Commands L ys → encode (cmdsOf xs) ≡ encode (cmdsOf ys) → cmdsOf xs ≡ cmdsOf ys
+module _ (L : Rule) where
+  -- D3e: lists of well-formed commands that have the same bytes are equal
+  abbrev pub EqualBytesEqualLists : Type 0
+  EqualBytesEqualLists =
+      (xs ys : List Item) → Commands L xs → Commands L ys → encode (cmdsOf xs) ≡ encode (cmdsOf ys) → EqualLists (recsIn xs) (recsIn ys)
+
+  -- of equal lists the build has the same answer and the same bytes, so it looks neither behind a payload (B4) nor at where a record came
+  -- from (B5)
+  pub record BuiltAlike (rs qs : List Rec) : Type 0 where
+    pub len : totalOf L (map whole rs) ≡ totalOf L (map whole qs)
+    pub build : (out : List ℕ) → buildOf L (map whole rs) out ≡ buildOf L (map whole qs) out
+
+  abbrev pub EqualListsBuiltAlike : Type 0
+  EqualListsBuiltAlike = (rs qs : List Rec) → EqualLists rs qs → BuiltAlike rs qs

@@ -3,6 +3,10 @@ use Prim.Native.Nat.{ℕ}
 use Rattle.table.specs.Answers.{Answer, given}
 use Rattle.table.specs.Answers as Answers
 use Rattle.table.specs.Refusals.{numberOf}
+use Rattle.walk.specs.Step.{Found, Heading}
+use Rattle.walk.specs.Told.{toldStep}
+use Rattle.build.specs.declared.handed.Handed.{Handed}
+use Rattle.build.specs.declared.record.Record.{Record}
 use Rattle.build.specs.declared.record.Judged.{Judged}
 use Rattle.build.specs.declared.record.Judged.the-variants as Judged
 use Rattle.build.specs.declared.packed.BuildAnswer.{BuildAnswer}
@@ -17,3 +21,6 @@ abbrev pub toldBuild : BuildAnswer → Built
 toldBuild (BuildAnswer.Total n) = total n
 toldBuild (BuildAnswer.RefusedAt r place) = refusedAt (numberOf r) place
 toldBuild (BuildAnswer.Refused r) = refused (numberOf r)
+
+abbrev pub toldHanded : Handed → Answer (Found Heading) × Record
+toldHanded h = (toldStep (h .step), h .«record»)

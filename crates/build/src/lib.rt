@@ -1,8 +1,11 @@
-// Building: commands as records, their total, and their bytes in order.
+// Commands as records: those that a walk hands out, and building: their total, and their bytes in order.
+pub mod handed;
 pub mod packed;
 pub mod record;
 pub mod sources;
 
+pub use handed::Handed;
+pub use handed::record_at;
 pub use packed::BuildAnswer;
 pub use packed::build_mac_commands;
 pub use packed::mac_commands_len;

@@ -10,7 +10,7 @@ ghost use Rattle.bits.specs.Memory.{over};
 ghost use Rattle.table.specs.Table.{lengthOf};
 ghost use Rattle.walk.specs.Walk.{encode};
 ghost use Rattle.build.specs.Build.{totalOf, buildOf};
-ghost use Rattle.build.specs.Records.{heldBy, slotAt, slotsOf, wholeSlots, cmdOf};
+ghost use Rattle.build.specs.Records.{frameless, slotAt, slotsOf, wholeSlots, cmdOf};
 ghost use Rattle.build.specs.Told.{toldBuild};
 
 // What building answers: the bytes that the records take, or a refusal, with the record's place where one is at fault.
@@ -30,20 +30,18 @@ fn length_in(byte: u8) -> usize
 // The record in a slot of eight bytes: CID, length, five payload bytes, and one that is ignored.
 fn slot(records: &[u8], i: usize) -> Record
     requires { ⌜ 8 * i + 8 ≤ length (now records) ⌝ }
-    ensures { λ r. ⌜ heldBy r ≡ slotAt (now (records .entry)) i ⌝ }
+    ensures { λ r. ⌜ r ≡ frameless (slotAt (now (records .entry)) i) ⌝ }
 {
     let at = 8 * i;
-    Record {
-        cid: records[at],
-        len: length_in(records[at + 1]),
-        payload: [
-            records[at + 2],
-            records[at + 3],
-            records[at + 4],
-            records[at + 5],
-            records[at + 6],
-        ],
-    }
+    let len = length_in(records[at + 1]);
+    let payload = [
+        records[at + 2],
+        records[at + 3],
+        records[at + 4],
+        records[at + 5],
+        records[at + 6],
+    ];
+    Record::new(records[at], len, payload)
 }
 
 // How many records there are. Bytes at the end that make no whole slot are one too.

@@ -7,15 +7,18 @@ ghost use lib.ListN.{length, take};
 ghost use lib.Seq.{paste};
 ghost use Rattle.bits.specs.Memory.{writtenAt};
 ghost use Rattle.table.specs.Table.{lengthOf};
-ghost use Rattle.build.specs.Records.{judged, heldBy, commandBytes, packedAt, lenByte, noRecord};
+ghost use Rattle.build.specs.Records.{judged, heldBy, frameless, commandBytes, packedAt, lenByte, noRecord};
 ghost use Rattle.build.specs.Laying.{LaidAt};
 ghost use Rattle.build.specs.Told.{toldJudged};
 
-// A command to be written: its CID, the length of its payload, and up to five payload bytes. Bytes past the length don't count.
+// A command: its CID, up to five payload bytes, and how many of them count; and where it came from: a frame's number, and the offset of the
+// CID in that frame's stream. What is written of it is the command alone. The fields stand in an order that leaves few gaps in memory.
 pub struct Record {
     pub cid: u8,
-    pub len: usize,
     pub payload: [u8; 5],
+    pub frame: u32,
+    pub len: usize,
+    pub offset: usize,
 }
 
 // A record held against a book of rules: the bytes that its command takes, CID included, or why it is refused.
@@ -25,15 +28,24 @@ pub enum Judged {
 }
 
 impl Record {
+    // A record that came from no frame, and has no place in one.
+    pub fn new(cid: u8, len: usize, payload: [u8; 5]) -> Record
+        ensures { λ r. ⌜ r ≡ frameless (record { cid = cid; len = len; bytes = payload }) ⌝ }
+    {
+        Record {
+            cid,
+            payload,
+            frame: 0,
+            len,
+            offset: 0,
+        }
+    }
+
     // The record of no command: no table has CID 0.
     pub fn none() -> Record
         ensures { λ r. ⌜ r ≡ noRecord ⌝ }
     {
-        Record {
-            cid: 0,
-            len: 0,
-            payload: [0; 5],
-        }
+        Record::new(0, 0, [0; 5])
     }
 
     pub fn judge(self, rules: Rules) -> Judged

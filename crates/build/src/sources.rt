@@ -11,53 +11,46 @@ ghost use Prim.Native.Nat.{_≤_};
 ghost use Rattle.payloads.specs.Commands.{uplinkEntry, uplinkBytes, downlinkEntry, downlinkBytes, inFive};
 ghost use Rattle.creators.specs.Kinds as Kinds;
 ghost use Rattle.creators.specs.Kinds.{toldImage};
-ghost use Rattle.build.specs.Records.{heldBy, ofPayload, ofImage};
+ghost use Rattle.build.specs.Records.{frameless, ofPayload, ofImage};
 
 fn of_payload(cid: u8, payload: PayloadBytes) -> Record
-    ensures { λ r. ⌜ heldBy r ≡ ofPayload cid (payload .len, payload .bytes) ⌝ }
+    ensures { λ r. ⌜ r ≡ frameless (ofPayload cid (payload .len, payload .bytes)) ⌝ }
 {
     let bytes = payload.bytes;
-    Record {
-        cid,
-        len: payload.len,
-        payload: bytes,
-    }
+    Record::new(cid, payload.len, bytes)
 }
 
 // The image's first byte is the CID, whatever the creator's kind.
 fn of_image(image: Image) -> Record
     requires { ⌜ 1 ≤ image .len ⌝ }
-    ensures { λ r. ⌜ heldBy r ≡ ofImage (toldImage image) ⌝ }
+    ensures { λ r. ⌜ r ≡ frameless (ofImage (toldImage image)) ⌝ }
 {
     let b = image.bytes;
-    Record {
-        cid: b[0],
-        len: image.len - 1,
-        payload: [b[1], b[2], b[3], b[4], b[5]],
-    }
+    let payload = [b[1], b[2], b[3], b[4], b[5]];
+    Record::new(b[0], image.len - 1, payload)
 }
 
 impl Record {
     pub fn of_uplink(command: UplinkMacCommand) -> Record
-        ensures { λ r. ⌜ heldBy r ≡ ofPayload (uplinkEntry command .cid) (inFive (uplinkBytes command)) ⌝ }
+        ensures { λ r. ⌜ r ≡ frameless (ofPayload (uplinkEntry command .cid) (inFive (uplinkBytes command))) ⌝ }
     {
         of_payload(command.cid(), command.bytes())
     }
 
     pub fn of_downlink(command: DownlinkMacCommand) -> Record
-        ensures { λ r. ⌜ heldBy r ≡ ofPayload (downlinkEntry command .cid) (inFive (downlinkBytes command)) ⌝ }
+        ensures { λ r. ⌜ r ≡ frameless (ofPayload (downlinkEntry command .cid) (inFive (downlinkBytes command))) ⌝ }
     {
         of_payload(command.cid(), command.bytes())
     }
 
     pub fn of_uplink_creator(creator: UplinkMacCommandCreator) -> Record
-        ensures { λ r. ⌜ heldBy r ≡ ofImage (Kinds.built (Kinds.toldUplink creator)) ⌝ }
+        ensures { λ r. ⌜ r ≡ frameless (ofImage (Kinds.built (Kinds.toldUplink creator))) ⌝ }
     {
         of_image(creator.build())
     }
 
     pub fn of_downlink_creator(creator: DownlinkMacCommandCreator) -> Record
-        ensures { λ r. ⌜ heldBy r ≡ ofImage (Kinds.built (Kinds.toldDownlink creator)) ⌝ }
+        ensures { λ r. ⌜ r ≡ frameless (ofImage (Kinds.built (Kinds.toldDownlink creator))) ⌝ }
     {
         of_image(creator.build())
     }

@@ -20,6 +20,7 @@ use Rattle.build.specs.Records.{Item, whole, part, cmdsOf}
 use Rattle.build.specs.Build.{Built, total, refusedAt, refused, totalOf, fill, buildOf}
 use Rattle.build.specs.ThereAndBack.{Commands, Full}
 use Rattle.build.specs.declared.record.Record.{Record}
+use Rattle.build.proofs.Equal.{its-commands-are}
 use Rattle.build.proofs.Slots.{slots-full}
 use Rattle.build.proofs.ThereAndBack as ThereAndBack
 use Rattle.lent.specs.Records.{itemsOf}
@@ -90,25 +91,27 @@ module _ (B : Builder) (d : BuildsAsDefined B) where
     pub later : drop (length (encode cs)) after ≡ drop (length (encode cs)) before
     pub walk : walkOf (lengthOf rules) (take (length (encode cs)) after) ≡ record { cmds = place 0 cs; ending = end (length (encode cs)) }
 
+  written-list : (rules : Rules) (xs : List Item) (before after : List ℕ) (a : Built) → length xs ≤ 4096 → Commands (lengthOf rules) xs
+      → length (encode (cmdsOf xs)) ≤ length before → B rules xs before a after → Written rules (cmdsOf xs) before a after
+  written-list rules xs before after a few c fits b =
+      let e = d rules xs before after a b .says in
+      let w = ThereAndBack.build-then-walk (lengthOf rules) xs before few c fits in
+      record {
+        size = ap (λ x. x .0) e ∙ w .size;
+        front = ap (λ x. take (length (encode (cmdsOf xs))) (x .1)) (e ∙ ThereAndBack.built (lengthOf rules) xs before few c fits)
+            ∙ ap (take (length (encode (cmdsOf xs)))) (ThereAndBack.over-front (lengthOf rules) xs before)
+            ∙ take-append-seam (encode (cmdsOf xs)) (drop (length (encode (cmdsOf xs))) before);
+        later = ap (λ x. drop (length (encode (cmdsOf xs))) (x .1)) e ∙ w .later;
+        walk = ap (λ x. walkOf (lengthOf rules) (take (length (encode (cmdsOf xs))) (x .1))) e ∙ w .walk;
+      }
+
   written : (rules : Rules) (cs : List Cmd) (xs : List Item) (before after : List ℕ) (a : Built) → length cs ≤ 4096 → StandsFor rules cs xs
       → length (encode cs) ≤ length before → B rules xs before a after → Written rules cs before a after
   written rules cs xs before after a few st fits b =
-      subst (λ (cs : List Cmd). Written rules cs before a after) (st .same) (of-list
-      (subst (λ (n : ℕ). n ≤ 4096) (sym (as-many (lengthOf rules) xs (st .well-formed) ∙ ap length (st .same))) few)
-      (subst (λ (cs : List Cmd). length (encode cs) ≤ length before) (sym (st .same)) fits))
-    where
-      of-list : length xs ≤ 4096 → length (encode (cmdsOf xs)) ≤ length before → Written rules (cmdsOf xs) before a after
-      of-list few fits =
-          let e = d rules xs before after a b .says in
-          let w = ThereAndBack.build-then-walk (lengthOf rules) xs before few (st .well-formed) fits in
-          record {
-            size = ap (λ x. x .0) e ∙ w .size;
-            front = ap (λ x. take (length (encode (cmdsOf xs))) (x .1)) (e ∙ ThereAndBack.built (lengthOf rules) xs before few (st .well-formed) fits)
-                ∙ ap (take (length (encode (cmdsOf xs)))) (ThereAndBack.over-front (lengthOf rules) xs before)
-                ∙ take-append-seam (encode (cmdsOf xs)) (drop (length (encode (cmdsOf xs))) before);
-            later = ap (λ x. drop (length (encode (cmdsOf xs))) (x .1)) e ∙ w .later;
-            walk = ap (λ x. walkOf (lengthOf rules) (take (length (encode (cmdsOf xs))) (x .1))) e ∙ w .walk;
-          }
+      let same : cmdsOf xs ≡ cs = its-commands-are xs cs (st .same) in
+      subst (λ (cs : List Cmd). Written rules cs before a after) same (written-list rules xs before after a
+      (subst (λ (n : ℕ). n ≤ 4096) (sym (as-many (lengthOf rules) xs (st .well-formed) ∙ ap length same)) few) (st .well-formed)
+      (subst (λ (cs : List Cmd). length (encode cs) ≤ length before) (sym same) fits) b)
 
   built-reads-back : BuiltReadsBack B
   built-reads-back rules cs xs before after a few st fits b =
@@ -131,22 +134,19 @@ module _ (B : Builder) (d : BuildsAsDefined B) where
       )
 
   -- what an accepted build wrote
-  accepted-wrote : (rules : Rules) (cs : List Cmd) (xs : List Item) (before after : List ℕ) (n : ℕ) → StandsFor rules cs xs → B rules xs before (total n) after
-      → take n after ≡ encode (cmdsOf xs)
-  accepted-wrote rules cs xs before after n st b =
+  accepted-wrote : (rules : Rules) (xs : List Item) (before after : List ℕ) (n : ℕ) → B rules xs before (total n) after
+      → Commands (lengthOf rules) xs × (take n after ≡ encode (cmdsOf xs))
+  accepted-wrote rules xs before after n b =
       let t = accepts-exactly rules xs before after (total n) b .0 (n, refl) in
-      let w = written rules cs xs before after (total n)
-      (subst (λ (n : ℕ). n ≤ 4096) (as-many (lengthOf rules) xs (st .well-formed) ∙ ap length (st .same)) (t .0))
-      st (subst (λ (cs : List Cmd). length (encode cs) ≤ length before) (st .same) (t .2)) b in
-      let n-is : n ≡ length (encode cs) = let q = w .size in cc in
-      ap (λ (k : ℕ). take k after) n-is ∙ w .front ∙ ap encode (sym (st .same))
+      let w = written-list rules xs before after (total n) (t .0) (t .1) (t .2) b in
+      let n-is : n ≡ length (encode (cmdsOf xs)) = let q = w .size in cc in
+      (t .1, ap (λ (k : ℕ). take k after) n-is ∙ w .front)
 
 same-bytes : (B C : Builder) → BuildsAsDefined B → BuildsAsDefined C → SameBytesSameList B C
-same-bytes B C d d' rules cs ds xs ys before before' after after' m n st st' b c e =
-    sym (st .same)
-    ∙ ThereAndBack.equal-bytes-equal-lists (lengthOf rules) xs ys (st .well-formed) (st' .well-formed)
-    (sym (accepted-wrote B d rules cs xs before after m st b) ∙ e ∙ accepted-wrote C d' rules ds ys before' after' n st' c)
-    ∙ st' .same
+same-bytes B C d d' rules xs ys before before' after after' m n b c e =
+    let w = accepted-wrote B d rules xs before after m b in
+    let v = accepted-wrote C d' rules ys before' after' n c in
+    ThereAndBack.equal-bytes-equal-lists (lengthOf rules) xs ys (w .0) (v .0) (sym (w .1) ∙ e ∙ v .1)
 
 -- the length that is asked beforehand
 agrees : (l : Built) (bytes before : List ℕ) → LengthAgrees l (length before) (fill l bytes before .0)
@@ -167,7 +167,7 @@ length-for-build Len len B d rules xs before after l a x b =
     ap (λ x. x .0) (d rules xs before after a b .says) ∙ ap (λ (t : Built). fill t (encode (cmdsOf xs)) before .0) (sym (len rules xs l x)) in
     subst (LengthAgrees l (length before)) (sym e) (agrees l (encode (cmdsOf xs)) before)
 
-len-slots : (rules : Rules) (xs : List Item) (l : Built) → LenOfSlots rules xs l → l ≡ totalOf (lengthOf rules) xs
+pub len-slots : (rules : Rules) (xs : List Item) (l : Built) → LenOfSlots rules xs l → l ≡ totalOf (lengthOf rules) xs
 len-slots rules _ _ (asked-length slots r g) = g .1 .1
 
 len-structs : (rules : Rules) (xs : List Item) (l : Built) → LenOfStructs rules xs l → l ≡ totalOf (lengthOf rules) xs

@@ -19,6 +19,8 @@ use Rattle.table.specs.Answers.{Answer, given, refused}
 use Rattle.walk.specs.Step.{Found, ended, command, stopped, Heading, heading}
 use Rattle.build.specs.Build.{Built, total, refusedAt}
 use Rattle.build.specs.Build as Build
+use Rattle.build.specs.declared.record.Record.{Record}
+use Rattle.build.proofs.record.Record as R
 use Rattle.lent.proofs.iterator.MacCommandIterator as T
 use Rattle.lent.specs.declared.iterator.MacCommandIterator.{MacCommandIterator}
 use Rattle.claims.specs.ByHand.{ByHand}
@@ -77,6 +79,9 @@ module _ (α : NamedLft) where
   next-set : IsSet (Answer (Found Heading) × MacCommandIterator)
   next-set = coded-set (coded× coded-found coded-iterator)
 
+  next-record-set : IsSet ((Answer (Found Heading) × Record) × MacCommandIterator)
+  next-record-set = coded-set (coded× (coded× coded-found (R.the-row .coded)) coded-iterator)
+
 found-set : IsSet (Answer (Found Heading))
 found-set = coded-set coded-found
 
@@ -132,6 +137,7 @@ by-hand = record {
   parse-up = λ κs s it exit. (λ q. q _ (iterator-set (namedLft 1 0 tt κs) _ _) (λ M 𝓤 H A mem run g. id⊢ 𝓤 _), λ e φ p h. follows p e (h M₀ 𝓤₀ H₀ A₀ (λ m. emp 𝓤₀) (λ r vs K. emp 𝓤₀) tt));
   parse-down = λ κs s it exit. (λ q. q _ (iterator-set (namedLft 1 0 tt κs) _ _) (λ M 𝓤 H A mem run g. id⊢ 𝓤 _), λ e φ p h. follows p e (h M₀ 𝓤₀ H₀ A₀ (λ m. emp 𝓤₀) (λ r vs K. emp 𝓤₀) tt));
   next = λ κs it r exit. (λ q. q _ (next-set (namedLft 2 1 tt κs) _ _) (λ M 𝓤 H A mem run g. id⊢ 𝓤 _), λ e φ p h. follows p e (h M₀ 𝓤₀ H₀ A₀ (λ m. emp 𝓤₀) (λ r vs K. emp 𝓤₀) tt));
+  next-record = λ κs it frame r exit. (λ q. q _ (next-record-set (namedLft 2 1 tt κs) _ _) (λ M 𝓤 H A mem run g. id⊢ 𝓤 _), λ e φ p h. follows p e (h M₀ 𝓤₀ H₀ A₀ (λ m. emp 𝓤₀) (λ r vs K. emp 𝓤₀) tt));
   nth-step = λ κs rules s n r exit. (λ q. q _ (found-set _ _) (λ M 𝓤 H A mem run g. id⊢ 𝓤 _), λ e φ p h. follows p e (h M₀ 𝓤₀ H₀ A₀ (λ m. emp 𝓤₀) (λ r vs K. emp 𝓤₀) tt));
   records-len = λ κs rules records r exit. (λ q. q _ (built-set _ _) (λ M 𝓤 H A mem run g. id⊢ 𝓤 _), λ e φ p h. follows p e (h M₀ 𝓤₀ H₀ A₀ (λ m. emp 𝓤₀) (λ r vs K. emp 𝓤₀) tt));
   build-records = λ κs rules records out r exit. (λ q. q _ (build-set _ _) (λ M 𝓤 H A mem run g. id⊢ 𝓤 _), λ e φ p h. follows p e (h M₀ 𝓤₀ H₀ A₀ (λ m. emp 𝓤₀) (λ r vs K. emp 𝓤₀) tt));

@@ -7,6 +7,7 @@ use Rattle.claims.proofs.Examples.{examples-hold}
 use Rattle.claims.proofs.Flags.{flags-tell}
 use Rattle.claims.proofs.Keeping.{refusals-keep, masks-tell}
 use Rattle.claims.proofs.Listing.{listings-tell}
+use Rattle.claims.proofs.Origins.{origins-tell}
 use Rattle.claims.proofs.Owning.{one-owner, next-is-step}
 use Rattle.claims.proofs.Time.{time-tells}
 
@@ -19,6 +20,7 @@ demands = record {
   examples = examples-hold;
   one-owner = one-owner;
   next-is-step = next-is-step;
+  origins-tell = origins-tell;
   builds = builds;
   by-hand = by-hand;
   chooser = record { so = chooser };

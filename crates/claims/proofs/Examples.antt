@@ -1,9 +1,10 @@
--- P1 to P15 hold: of the definitions, where each side computes, and so of every outcome that the contracts admit. Assumes nothing.
+-- P1 to P15 and P17 hold: of the definitions, where each side computes, and so of every outcome that the contracts admit. Assumes nothing.
 use Prim.Native.Nat.{ℕ}
 use mathlib.Core.Bool.{Bool}
 use mathlib.Core.List.{List, [], _∷_, _++_}
 use mathlib.Core.Path.{_≡_, refl, ap, _∙_, subst}
 use native.Mathlib.Omega.{arith}
+use denote.Ref.{now}
 use Rattle.bits.specs.Every.{Every}
 use Rattle.table.specs.Answers.{given, refused, accepted}
 use Rattle.table.specs.Table.{lengthOf, named}
@@ -22,6 +23,7 @@ use Rattle.creators.specs.Image.{newOf, putAt, putBytes, checkedAt}
 use Rattle.creators.specs.Setters.{isMargin, marginAt, dwellAt, lowBytes, secondsAt, nanoSecondsAt}
 use Rattle.walk.specs.Walk.{Walk, go, walkOf}
 use Rattle.build.specs.Build.{sumFrom, buildOf}
+use Rattle.build.specs.Handed.{recordsOf}
 use Rattle.build.specs.Records.{slotsOf}
 use Rattle.lent.specs.Records.{itemsOf}
 use Rattle.claims.specs.Examples.{
@@ -31,6 +33,7 @@ use Rattle.claims.specs.Examples.{
   DlChannelAns,
   Example,
   reads,
+  hands,
   frequency,
   margin-reads,
   no-margin,
@@ -49,14 +52,17 @@ use Rattle.claims.specs.Examples.{
   p7to9,
   p10to13,
   p14and15,
+  p17,
   examples,
   All,
   ExamplesHold,
 }
-use Rattle.claims.specs.Handing.{ReadAs}
+use Rattle.claims.specs.Handing.{ReadAs, recordSteps, recordIterator}
+use Rattle.claims.specs.Origins.{HandsOutRecords}
 use Rattle.claims.proofs.Building.{slots-defined, structs-defined}
 use Rattle.claims.proofs.Handing as Handing
 use Rattle.claims.proofs.Keeping.{both}
+use Rattle.claims.proofs.Origins.{records-of-the-walk}
 
 abbrev rule : Answering → List ℕ → Bool
 rule LinkADRAns = LinkADRAns·accepts
@@ -66,6 +72,8 @@ rule DlChannelAns = DlChannelAns·accepts
 -- an example, of the definitions
 abbrev Means : Example → Type 0
 Means (reads d bytes cmds ending) = walkOf (lengthOf (record { direction = d })) bytes ≡ record { cmds = cmds; ending = ending }
+Means (hands d frame bytes records ending) =
+    (recordsOf (lengthOf (record { direction = d })) frame bytes ≡ records) × (walkOf (lengthOf (record { direction = d })) bytes .ending ≡ ending)
 Means (frequency bytes hz) = (exactly 3 bytes ≡ given bytes) × (hertz bytes ≡ hz)
 Means (margin-reads b m) = (battery : ℕ) → marginOf (battery ∷ b ∷ []) ≡ m
 Means (no-margin m) = (image : List ℕ) → marginAt image m ≡ (refused 9, image)
@@ -99,6 +107,16 @@ of-functions : (e : Example) → Means e → Holds e
 of-functions (reads d bytes cmds ending) e = λ stream same.
     subst (λ (w : Walk). ReadAs (record { direction = d }) stream (w .cmds) (w .ending)) (ap (walkOf (lengthOf (record { direction = d }))) same ∙ e)
     (Handing.reads (record { direction = d }) stream)
+of-functions (hands d frame bytes records ending) e = λ stream same.
+    let rules = record { direction = d } in
+    let w = records-of-the-walk rules stream in
+    let L = lengthOf rules in
+    record {
+      cmds = walkOf L (now stream) .cmds;
+      same = ap (recordsOf L frame) same ∙ e .0;
+      by-offsets = subst (HandsOutRecords (recordSteps rules frame stream) frame (walkOf L (now stream) .cmds)) (ap (λ (s : List ℕ). walkOf L s .ending) same ∙ e .1) (w .by-offsets frame);
+      by-iterator = subst (HandsOutRecords (recordIterator rules frame stream) frame (walkOf L (now stream) .cmds)) (ap (λ (s : List ℕ). walkOf L s .ending) same ∙ e .1) (w .by-iterator frame);
+    }
 of-functions (frequency bytes hz) e = record { so = λ s same a g. in-hertz bytes hz (e .1) a (g .1 .1 ∙ ap (exactly 3) same ∙ e .0) }
 of-functions (margin-reads b m) e = record { so = λ battery r g. g .1 .1 ∙ e battery }
 of-functions (no-margin m) e = record { so = λ c r g. let x = both (g .1 .1 ∙ e (c .«data»)) in (x .0, ap (λ (d : List ℕ). record { «data» = d }) (x .1)) }
@@ -152,5 +170,13 @@ third = (refl, (refl, (refl, ((refl, refl, refl), ((refl, refl), ((refl, refl), 
 fourth : Every Means p14and15
 fourth = (refl, (refl, (refl, (refl, (refl, (refl, (refl, (refl, (refl, tt)))))))))
 
+fifth : Every Means p17
+unfolding go
+fifth = ((refl, refl), ((refl, refl), ((refl, refl), tt)))
+
 pub examples-hold : ExamplesHold
-examples-hold = all examples (join p1to6 (p7to9 ++ (p10to13 ++ p14and15)) first (join p7to9 (p10to13 ++ p14and15) second (join p10to13 p14and15 third fourth)))
+examples-hold = all examples
+    (join p1to6 (p7to9 ++ (p10to13 ++ (p14and15 ++ p17))) first
+    (join p7to9 (p10to13 ++ (p14and15 ++ p17)) second
+    (join p10to13 (p14and15 ++ p17) third
+    (join p14and15 p17 fourth fifth))))

@@ -12,19 +12,27 @@ use contract.Lifetimes.{Lfts}
 use Rattle.table.specs.Answers.{Answer, given, refused}
 use Rattle.table.specs.Table.{lengthOf}
 use Rattle.table.specs.declared.rules.Rules.{Rules}
+use Rattle.table.proofs.Lengths.{at-most-five}
 use Rattle.payloads.specs.Commands.{sentUp, sentDown}
 use Rattle.walk.specs.Ownership.{offsetOf, Owned}
 use Rattle.walk.specs.Part.{Part, shown, payloadPart}
-use Rattle.walk.specs.Step.{Found, ended, command, stopped, Heading, firstOf, firstMove, foundAt, inNumbers, stepAt}
+use Rattle.walk.specs.Step.{Found, ended, command, stopped, Heading, firstOf, firstMove, foundAt, retold, inNumbers, stepAt}
 use Rattle.walk.specs.Told.{toldStep}
 use Rattle.walk.specs.Walk.{Rule, Cmd, Placed, Ending, end, stop, Walk, encode, size, bare, walkFrom, walkOf}
 use Rattle.walk.specs.declared.step.Step.{Step}
 use Rattle.walk.proofs.Ownership as Ownership
-use Rattle.walk.proofs.Steps.{ended-no-command}
-use Rattle.lent.specs.Iterator.{movedTo, fresh, nexted}
+use Rattle.walk.proofs.Steps.{ended-no-command, found-command}
+use Rattle.build.specs.Handed.{recordFound, handedAt}
+use Rattle.build.specs.Records.{cmdOf, heldBy}
+use Rattle.build.specs.Told.{toldHanded}
+use Rattle.build.specs.declared.handed.Handed.{Handed}
+use Rattle.build.specs.declared.record.Record.{Record}
+use Rattle.build.proofs.AsRecords.{five-front}
+use Rattle.lent.specs.Iterator.{movedTo, fresh, nexted, nextedRecord}
 use Rattle.lent.specs.declared.iterator.MacCommandIterator.{MacCommandIterator}
 use Rattle.lent.proofs.iterator.MacCommandIterator.next as next
-use Rattle.claims.specs.Handing.{Front, withPayload, onward, byOffsets, StepAsked, UplinkAsked, DownlinkAsked, Made, by-new, parsed-up, parsed-down, NextAsked, NoCommand, Calls, begun, handed, none-handed, HandsOut, ReadAs, steps, uplinkSteps, downlinkSteps, iterator}
+use Rattle.lent.proofs.iterator.MacCommandIterator.next_record as next-record
+use Rattle.claims.specs.Handing.{Front, RecordFront, RecordAsked, NextRecordAsked, CommandAsked, commandsOf, recordSteps, recordIterator, withPayload, onward, byOffsets, StepAsked, UplinkAsked, DownlinkAsked, Made, by-new, parsed-up, parsed-down, NextAsked, NoCommand, Calls, begun, handed, none-handed, HandsOut, ReadAs, steps, uplinkSteps, downlinkSteps, iterator}
 use Rattle.claims.specs.Handing as Handing
 use Rattle.claims.specs.Outcomes.{Admits}
 use Rattle.claims.proofs.ByHand.{by-hand}
@@ -56,6 +64,18 @@ module _ (L : Rule) (s : List ℕ) (before coming : List Placed) (e : walkOf L s
       let k = offsetOf coming (walkOf L s .ending) in
       ap (λ (b : Bool). cond b (given (firstMove (walkFrom L k (drop k s)))) (refused 5)) (le-leb (offsetOf coming (walkOf L s .ending)) (length s) (owned .within))
       ∙ ap (λ (w : Walk). given (firstMove w)) (Ownership.resumes L s before coming e)
+
+-- behind the first of those that are coming stands the next
+pub stands-next : (L : Rule) (s : List ℕ) (before : List Placed) (p : Placed) (ps : List Placed) → walkOf L s .cmds ≡ before ++ (p ∷ ps)
+    → (walkOf L s .cmds ≡ (before ++ (p ∷ [])) ++ ps) × (offsetOf ps (walkOf L s .ending) ≡ p .at + size (p .cmd))
+stands-next L s before p ps e =
+    let split : walkOf L s .cmds ≡ (before ++ (p ∷ [])) ++ ps = e ∙ sym (append-assoc before (p ∷ []) ps) in (
+      split,
+      stands-behind L s (before ++ (p ∷ [])) ps split
+          ∙ ap (λ (l : List Cmd). length (encode l)) (bare-append before (p ∷ []))
+          ∙ one-more-size (bare before) (p .cmd)
+          ∙ ap (λ (k : ℕ). k + size (p .cmd)) (sym (stands-behind L s before (p ∷ ps) e)),
+    )
 
 -- no ending moves who reads
 stays : (e : Ending) (at : ℕ) → onward (given (firstOf [] e)) at ≡ at
@@ -94,17 +114,13 @@ module _ (L : Rule) (s : List ℕ) (F : Front) (f : Faithful L s F) where
   moves {out = out} c next before (p ∷ ps) e h sound o a =
       let c-is : c ≡ p .cmd = cc in
       let next-is : next ≡ p .at + size (p .cmd) = cc in
-      let split : walkOf L s .cmds ≡ (before ++ (p ∷ [])) ++ ps = e ∙ sym (append-assoc before (p ∷ []) ps) in
-      let here : p .at ≡ length (encode (bare before)) = stands-behind L s before (p ∷ ps) e in
-      let there : offsetOf ps (walkOf L s .ending) ≡ length (encode (bare (before ++ (p ∷ [])))) = stands-behind L s (before ++ (p ∷ [])) ps split in
-      let far : length (encode (bare (before ++ (p ∷ [])))) ≡ length (encode (bare before)) + size (p .cmd) =
-      ap (λ (l : List Cmd). length (encode l)) (bare-append before (p ∷ [])) ∙ one-more-size (bare before) (p .cmd) in
+      let n = stands-next L s before p ps e in
       record {
         before = before ++ (p ∷ []);
         coming = ps;
-        parted = split;
+        parted = n .0;
         handed-out = ap (λ (l : List Cmd). l ++ (c ∷ [])) h ∙ ap (λ (d : Cmd). bare before ++ (d ∷ [])) c-is ∙ sym (bare-append before (p ∷ []));
-        stands = o ∙ next-is ∙ ap (λ (k : ℕ). k + size (p .cmd)) here ∙ sym far ∙ sym there;
+        stands = o ∙ next-is ∙ sym (n .1);
         sound = sound;
       }
 
@@ -259,11 +275,97 @@ module _ (rules : Rules) (stream : RefT (List ℕ)) where
     asks = next-faithful;
   }
 
-  -- all entries hand out the defined walk
+-- ---- the entries that hand out records
+
+-- one that answers as the definition of a record at an offset says
+pub record FaithfulRecords (L : Rule) (s : List ℕ) (frame : ℕ) (F : RecordFront) : Type 2 where
+  pub Sound : F .State → Type 0
+  pub begins : (st : F .State) → F .begin st → Sound st × (F .offset st ≡ 0)
+  pub asks : (st st' : F .State) (x : Answer (Found Heading) × Record) → Sound st → F .ask st x st'
+      → (x ≡ handedAt L frame s (F .offset st)) × (F .offset st' ≡ onward (x .0) (F .offset st)) × Sound st'
+
+onward-retold : {A B : Type 0} (f : A → B) (a : Answer (Found A)) (at : ℕ) → onward (retold f a) at ≡ onward a at
+onward-retold f (given (command c next)) at = refl
+onward-retold f (given ended) at = refl
+onward-retold f (given (stopped n o)) at = refl
+onward-retold f (refused n) at = refl
+
+module _ (rules : Rules) (s : List ℕ) (frame : ℕ) where
+  -- no payload is longer than a record's five bytes, so the command is the record's
+  record-command : (at : ℕ) (y : Answer (Found Cmd)) → foundAt (lengthOf rules) s at ≡ y
+      → retold (λ (h : Heading). cmdOf (heldBy (recordFound frame at y))) (inNumbers y) ≡ y
+  record-command at (given (command c next)) e =
+      let g = found-command (lengthOf rules) s e in
+      ap (λ (b : List ℕ). given (command (record { cid = c .cid; body = b }) next)) (five-front (c .body) (at-most-five rules (c .cid) (length (c .body)) (g .known)))
+  record-command at (given ended) e = refl
+  record-command at (given (stopped n o)) e = refl
+  record-command at (refused n) e = refl
+
+  pub commands-faithful : (F : RecordFront) → FaithfulRecords (lengthOf rules) s frame F → Faithful (lengthOf rules) s (commandsOf F)
+  commands-faithful F f = record { Sound = f .Sound; begins = f .begins; asks = ask }
+    where
+      ask : (st st' : F .State) (a : Answer (Found Cmd)) → f .Sound st → CommandAsked F st a st'
+          → (a ≡ foundAt (lengthOf rules) s (F .offset st)) × (F .offset st' ≡ onward a (F .offset st)) × f .Sound st'
+      ask _ _ _ sound (Handing.asked st st' x q) =
+          let y = f .asks st st' x sound q in
+          let at = F .offset st in (
+            ap (λ (z : Answer (Found Heading) × Record). retold (λ (h : Heading). cmdOf (heldBy (z .1))) (z .0)) (y .0) ∙ record-command at (foundAt (lengthOf rules) s at) refl,
+            y .1 ∙ sym (onward-retold (λ (h : Heading). cmdOf (heldBy (x .1))) (x .0) at),
+            y .2,
+          )
+
+-- an iterator moves as one does who reads by offsets, in numbers too
+moved-in-numbers : (a : Answer (Found Heading)) (at : ℕ) → movedTo a at ≡ onward a at
+moved-in-numbers (given (command h next)) at = refl
+moved-in-numbers (given ended) at = refl
+moved-in-numbers (given (stopped n o)) at = refl
+moved-in-numbers (refused n) at = refl
+
+-- what the contract of `next_record` says
+pub next-record-says : (it : RefT MacCommandIterator) (frame : ℕ) (r : Handed) (κs : Lfts 2) (exit : RefT MacCommandIterator × (ℕ × Unit))
+    → Admits next-record.ended (λ M 𝓤. next-record.clauses 𝓤) κs (it, (frame, tt)) r exit
+    → _≡_ {A = (Answer (Found Heading) × Record) × MacCommandIterator} (toldHanded r, now (exit .0)) (nextedRecord frame (now it))
+next-record-says it frame r κs exit q = by-hand .next-record κs it frame r exit .0 q
+
+module _ (rules : Rules) (frame : ℕ) (stream : RefT (List ℕ)) where
+  record-asked : (at at' : ℕ) (x : Answer (Found Heading) × Record) → Unit {0} → RecordAsked rules frame stream at x at'
+      → (x ≡ handedAt (lengthOf rules) frame (now stream) at) × (at' ≡ onward (x .0) at) × Unit {0}
+  record-asked _ _ _ _ (Handing.asked at r g) = (g .1 .1, refl, tt)
+
+  pub records-faithful : FaithfulRecords (lengthOf rules) (now stream) frame (recordSteps rules frame stream)
+  records-faithful = record { Sound = λ at. Unit; begins = λ at b. (tt, b .zero); asks = record-asked }
+
+  next-record-faithful : (it it' : MacCommandIterator) (x : Answer (Found Heading) × Record) → Keeps rules stream it → NextRecordAsked frame it x it'
+      → (x ≡ handedAt (lengthOf rules) frame (now stream) (it .index)) × (it' .index ≡ onward (x .0) (it .index)) × Keeps rules stream it'
+  next-record-faithful _ _ _ k (Handing.asked it r κs exit q) =
+      let e = next-record-says it frame r κs exit q in (
+        ap (λ x. x .0) e
+            ∙ ap (λ (r : Rules). handedAt (lengthOf r) frame (now (now it .«data»)) (now it .index)) (k .same-rules)
+            ∙ ap (λ (s : RefT (List ℕ)). handedAt (lengthOf rules) frame (now s) (now it .index)) (k .same-stream),
+        ap (λ x. x .1 .index) e
+            ∙ ap (λ x. movedTo (x .0 .0) (now it .index)) (sym e)
+            ∙ moved-in-numbers (toldHanded r .0) (now it .index),
+        record { same-stream = ap (λ x. x .1 .«data») e ∙ k .same-stream; same-rules = ap (λ x. x .1 .rules) e ∙ k .same-rules },
+      )
+
+  pub record-iterator-faithful : FaithfulRecords (lengthOf rules) (now stream) frame (recordIterator rules frame stream)
+  record-iterator-faithful = record {
+    Sound = Keeps rules stream;
+    begins = made-faithful stream rules;
+    asks = next-record-faithful;
+  }
+
+-- ---- all entries hand out the defined walk
+
+module _ (rules : Rules) (stream : RefT (List ℕ)) where
   pub reads : ReadAs rules stream (walkOf (lengthOf rules) (now stream) .cmds) (walkOf (lengthOf rules) (now stream) .ending)
   reads = record {
     by-steps = hands-out (lengthOf rules) (now stream) (steps rules stream) (steps-faithful rules stream);
-    by-iterator = hands-out (lengthOf rules) (now stream) (iterator rules stream) iterator-faithful;
+    by-iterator = hands-out (lengthOf rules) (now stream) (iterator rules stream) (iterator-faithful rules stream);
+    as-records = λ frame. hands-out (lengthOf rules) (now stream) (commandsOf (recordSteps rules frame stream))
+        (commands-faithful rules (now stream) frame (recordSteps rules frame stream) (records-faithful rules frame stream));
+    by-record-iterator = λ frame. hands-out (lengthOf rules) (now stream) (commandsOf (recordIterator rules frame stream))
+        (commands-faithful rules (now stream) frame (recordIterator rules frame stream) (record-iterator-faithful rules frame stream));
     typed-up = λ e. subst (λ (r : Rules). HandsOut (uplinkSteps stream) (walkOf (lengthOf r) (now stream) .cmds) (walkOf (lengthOf r) (now stream) .ending)) (sym e)
         (hands-out (lengthOf sentUp) (now stream) (uplinkSteps stream) (uplink-faithful stream));
     typed-down = λ e. subst (λ (r : Rules). HandsOut (downlinkSteps stream) (walkOf (lengthOf r) (now stream) .cmds) (walkOf (lengthOf r) (now stream) .ending)) (sym e)

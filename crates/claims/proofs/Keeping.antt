@@ -11,6 +11,7 @@ use borrow.Author.Tests.{lt-ltb, le-ltb, le-leb, lt-leb}
 use denote.Ref.{RefT, now}
 use Rattle.bits.specs.Memory.{over, writtenAt}
 use Rattle.table.specs.Answers.{Answer, Consent, given, refused, accepted}
+use Rattle.table.specs.Table.{lengthOf}
 use Rattle.table.specs.Told.{toldVerdict}
 use Rattle.table.specs.declared.refusal.Verdict.{Verdict}
 use Rattle.fields.specs.Mask.{switched}
@@ -20,18 +21,19 @@ use Rattle.creators.specs.Setters.{isMargin, sixBits, marginAt, nanoSecondsAt}
 use Rattle.walk.specs.Step.{Found, ended, command, stopped, Heading}
 use Rattle.walk.specs.Told.{toldStep}
 use Rattle.walk.specs.Walk.{Cmd}
-use Rattle.build.specs.Records.{heldBy, commandBytes, lenByte, packedAt}
+use Rattle.build.specs.Records.{heldBy, noRecord, commandBytes, lenByte, packedAt}
 use Rattle.build.specs.declared.record.Record.{Record}
 use Rattle.build.proofs.record.Record.write.Reads as write
 use Rattle.build.proofs.record.Record.pack.Reads as pack
-use Rattle.lent.specs.Iterator.{movedTo, atIndex}
+use Rattle.build.proofs.AsRecords.{no-record}
+use Rattle.lent.specs.Iterator.{movedTo, stepOf, atIndex}
 use Rattle.lent.specs.declared.iterator.MacCommandIterator.{MacCommandIterator}
-use Rattle.claims.specs.Handing.{NextAsked, withPayload}
+use Rattle.claims.specs.Handing.{NextAsked, NextRecordAsked, withPayload}
 use Rattle.claims.specs.Handing as Handing
 use Rattle.claims.specs.Keeping.{Checked, Written, RefusalsKeep, MasksTell}
 use Rattle.claims.specs.Outcomes.{GivesWith}
 use Rattle.claims.proofs.Building.{keeps-slots, keeps-structs, keeps-four}
-use Rattle.claims.proofs.Handing.{next-says}
+use Rattle.claims.proofs.Handing.{next-says, next-record-says}
 
 -- two equations from one of pairs
 pub both : {A B : Type 0} {a c : A} {b d : B} → _≡_ {A = A × B} (a, b) (c, d) → (a ≡ c) × (b ≡ d)
@@ -108,6 +110,15 @@ next-kept _ _ _ n (Handing.asked it r p κs exit q g) e =
     told (given (stopped k o)) b n e = let z : _≡_ {A = ℕ} 0 1 = cc in absurd (omega arith)
     told (refused k) b n e = cc
 
+next-record-kept : (frame : ℕ) (it : MacCommandIterator) (x : Answer (Found Heading) × Record) (it' : MacCommandIterator) (n : ℕ) → NextRecordAsked frame it x it' → x .0 ≡ refused n
+    → (x .1 ≡ noRecord) × (it' ≡ it)
+next-record-kept frame _ _ _ n (Handing.asked it r κs exit q) e =
+    let t = next-record-says it frame r κs exit q in
+    let step : stepOf (now it) ≡ refused n = sym (ap (λ x. x .0 .0) t) ∙ e in (
+      ap (λ x. x .0 .1) t ∙ sym (no-record (lengthOf (now it .rules)) (now (now it .«data»)) frame (now it .index) (refused n) step refl),
+      ap (λ x. x .1) t ∙ ap (λ (x : Answer (Found Heading)). atIndex (now it) (movedTo x (now it .index))) step,
+    )
+
 write-says : (r : Record) (out : RefT (List ℕ)) (at next : ℕ) (after : List ℕ) → GivesWith (λ s. now (s .1 .0)) write.Post (r, (out, (at, tt))) next after
     → Written (now out) at (heldBy r) next after
 unfolding writtenAt
@@ -136,6 +147,7 @@ refusals-keep = record {
   structs = keeps-structs;
   four = keeps-four;
   next = next-kept;
+  next-record = next-record-kept;
   write = write-says;
   pack = pack-says;
   bank-2 = λ m i v r g. below (λ b. record { 0 = b }) i (length (m .0)) (r .verdict) (r .mask .0) (m .0) (set (m .0) i v) 5 (g .1 .1);

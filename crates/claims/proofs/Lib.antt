@@ -8,5 +8,6 @@ pub mod Handing
 pub mod Keeping
 pub mod Listing
 pub mod Lists
+pub mod Origins
 pub mod Owning
 pub mod Time

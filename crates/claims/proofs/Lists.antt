@@ -7,7 +7,7 @@ use mathlib.Core.Path.{_≡_, refl, sym, ap, _∙_, subst}
 use native.Mathlib.Omega.{arith}
 use lib.Dec.{eqb, lit≤}
 use lib.ListN.{length, getD, take}
-use lib.Seq.{getD-append-add}
+use lib.Seq.{getD-append-add, take-length}
 use borrow.Author.Tests.{eqb-true}
 use Rattle.bits.specs.Bits.{Byte}
 use Rattle.bits.specs.Every.{Every}
@@ -16,8 +16,9 @@ use Rattle.table.specs.declared.rules.Direction.{Direction}
 use Rattle.table.specs.declared.rules.Rules.{Rules}
 use Rattle.table.proofs.Lengths.{at-most-five}
 use Rattle.walk.specs.Walk.{Rule, Cmd, WellFormed}
-use Rattle.build.specs.Records.{Rec, whole, cmdsOf, heldBy, noRecord, slotAt, slotsOf}
+use Rattle.build.specs.Records.{Rec, whole, heldBy, frameless, noRecord, slotAt, slotsOf}
 use Rattle.build.specs.declared.record.Record.{Record}
+use Rattle.build.proofs.AsRecords.{five, five-is, five-front}
 use Rattle.lent.specs.Packing.{inSlot}
 use Rattle.lent.specs.Records.{recsOf, itemsOf}
 use Rattle.lent.proofs.Packing.{short-stays, slots-are, slot-same}
@@ -25,11 +26,8 @@ use Rattle.claims.specs.Building.{Five, StandsFor, EveryListBuilt}
 
 -- ---- a record and a slot of a command
 
-abbrev five : List ℕ → List ℕ
-five b = getD b 0 0 ∷ getD b 1 0 ∷ getD b 2 0 ∷ getD b 3 0 ∷ getD b 4 0 ∷ []
-
 abbrev recordOf : Cmd → Record
-recordOf c = record { cid = c .cid; len = length (c .body); payload = five (c .body) }
+recordOf c = frameless (record { cid = c .cid; len = length (c .body); bytes = five (c .body) })
 
 -- the slot, in front of the others
 abbrev slotBefore : Cmd → List ℕ → List ℕ
@@ -39,16 +37,6 @@ abbrev slotsFor : List Cmd → List ℕ
 slotsFor [] = []
 slotsFor (c ∷ cs) = slotBefore c (slotsFor cs)
 
--- so many bytes of five are those
-five-take : (b : List ℕ) → length b ≤ 5 → take (length b) (five b) ≡ b
-five-take [] h = refl
-five-take (a ∷ []) h = refl
-five-take (a ∷ b ∷ []) h = refl
-five-take (a ∷ b ∷ c ∷ []) h = refl
-five-take (a ∷ b ∷ c ∷ d ∷ []) h = refl
-five-take (a ∷ b ∷ c ∷ d ∷ e ∷ []) h = refl
-five-take (a ∷ b ∷ c ∷ d ∷ e ∷ f ∷ b') h = absurd (omega arith)
-
 -- ---- records stand for commands
 
 module _ (rules : Rules) where
@@ -56,13 +44,13 @@ module _ (rules : Rules) where
   L = lengthOf rules
 
   record-stands : (cs : List Cmd) → WellFormed L cs → StandsFor rules cs (itemsOf (map recordOf cs))
-  record-stands [] w = record { well-formed = tt; same = refl }
+  record-stands [] w = record { well-formed = tt; same = tt }
   record-stands (c ∷ cs) w =
       let r = record-stands cs (w .1) in
       let short : length (c .body) ≤ 5 = at-most-five rules (c .cid) (length (c .body)) (w .0) in
       record {
         well-formed = (w .0, short, r .well-formed);
-        same = ap (λ (b : List ℕ). record { cid = c .cid; body = b } ∷ cmdsOf (itemsOf (map recordOf cs))) (five-take (c .body) short) ∙ ap (λ (l : List Cmd). c ∷ l) (r .same);
+        same = (record { cid = refl; len = refl; payload = ap (take (length (c .body))) (five-is (c .body)) ∙ five-front (c .body) short ∙ sym (take-length (c .body)) }, r .same);
       }
 
   -- lengths that have room in a slot

@@ -22,10 +22,10 @@ use Rattle.walk.proofs.Told.{step-tells}
 use Rattle.walk.proofs.step.step_at.Reads as step-at
 use Rattle.walk.proofs.step.payload_at.Reads as payload-at
 use Rattle.walk.proofs.whole.walk.Reads as walk
-use Rattle.claims.specs.Handing.{Front, withPayload, NoCommand, none-handed, steps, uplinkSteps, downlinkSteps, iterator}
+use Rattle.claims.specs.Handing.{Front, withPayload, NoCommand, none-handed, steps, uplinkSteps, downlinkSteps, iterator, recordSteps, recordIterator, commandsOf}
 use Rattle.claims.specs.Outcomes.{Gives}
 use Rattle.claims.specs.Owning.{OwnsBytes, StopsThere, Begins, all-out, coming, FrontsBegin, OneOwnerBy, WholeWalk, ShownBehind, OneOwner, NextIsStep}
-use Rattle.claims.proofs.Handing.{bare-append, next-says, stands-behind, Faithful, Position, position, answered, reads, steps-faithful, uplink-faithful, downlink-faithful, iterator-faithful}
+use Rattle.claims.proofs.Handing.{bare-append, next-says, stands-behind, Faithful, Position, position, answered, reads, steps-faithful, uplink-faithful, downlink-faithful, iterator-faithful, commands-faithful, records-faithful, record-iterator-faithful}
 
 -- ---- lists
 
@@ -177,6 +177,10 @@ pub one-owner : (rules : Rules) (stream : RefT (List ℕ)) → OneOwner rules st
 one-owner rules stream = record {
   by-steps = one-owner-by rules stream (steps rules stream) (steps-faithful rules stream);
   by-iterator = one-owner-by rules stream (iterator rules stream) (iterator-faithful rules stream);
+  as-records = λ frame. one-owner-by rules stream (commandsOf (recordSteps rules frame stream))
+      (commands-faithful rules (now stream) frame (recordSteps rules frame stream) (records-faithful rules frame stream));
+  by-record-iterator = λ frame. one-owner-by rules stream (commandsOf (recordIterator rules frame stream))
+      (commands-faithful rules (now stream) frame (recordIterator rules frame stream) (record-iterator-faithful rules frame stream));
   typed-up = λ e. subst (λ (r : Rules). OneOwnerBy r stream (uplinkSteps stream)) (sym e) (one-owner-by sentUp stream (uplinkSteps stream) (uplink-faithful stream));
   typed-down = λ e. subst (λ (r : Rules). OneOwnerBy r stream (downlinkSteps stream)) (sym e) (one-owner-by sentDown stream (downlinkSteps stream) (downlink-faithful stream));
   whole = whole-walk rules stream;

@@ -1,6 +1,6 @@
 -- What the builds answer and leave in lent memory: all that their contracts admit (RULES: D1, D3d, D3e, B1 to B4).
 use Prim.Native.Nat.{ℕ, _<_, _≤_}
-use mathlib.Core.List.{List}
+use mathlib.Core.List.{List, map}
 use mathlib.Core.Logic.{_↔_}
 use mathlib.Core.Path.{_≡_}
 use lib.ListN.{length, take, drop}
@@ -11,7 +11,8 @@ use Rattle.bits.specs.Every.{Every}
 use Rattle.table.specs.Table.{lengthOf}
 use Rattle.table.specs.declared.rules.Rules.{Rules}
 use Rattle.walk.specs.Walk.{Cmd, WellFormed, end, encode, place}
-use Rattle.build.specs.Records.{Item, cmdsOf, slotsOf}
+use Rattle.build.specs.Equal.{EqualLists, asRec}
+use Rattle.build.specs.Records.{Item, recsIn, cmdsOf, slotsOf}
 use Rattle.build.specs.Build.{Built, total, refusedAt, refused, buildOf}
 use Rattle.build.specs.ThereAndBack.{Commands, Full}
 use Rattle.build.specs.Told.{toldBuild}
@@ -69,10 +70,10 @@ IsRefusal (total n) = ⊥
 IsRefusal (refusedAt k place) = Unit
 IsRefusal (refused k) = Unit
 
--- a list that stands for these commands: each a whole record, well formed
+-- a list that stands for these commands: each a whole record, well formed, and equal to them
 pub record StandsFor (rules : Rules) (cs : List Cmd) (xs : List Item) : Type 0 where
   pub well-formed : Commands (lengthOf rules) xs
-  pub same : cmdsOf xs ≡ cs
+  pub same : EqualLists (recsIn xs) (map asRec cs)
 
 -- the commands were written: the total is the number of their bytes, which stand in front, behind them memory is as it was, and who reads what was
 -- written is handed out the commands and the end
@@ -107,11 +108,10 @@ module _ (B : Builder) where
   AcceptsExactly = (rules : Rules) (xs : List Item) (before after : List ℕ) (a : Built) → B rules xs before a after
       → ((n : ℕ) × (a ≡ total n)) ↔ ((length xs ≤ 4096) × Commands (lengthOf rules) xs × (length (encode (cmdsOf xs)) ≤ length before))
 
--- D3e, of two builds
+-- D3e, of two builds: lists that were accepted and have equal bytes are equal
 abbrev pub SameBytesSameList : Builder → Builder → Type 2
-SameBytesSameList B C = (rules : Rules) (cs ds : List Cmd) (xs ys : List Item) (before before' after after' : List ℕ) (m n : ℕ)
-    → StandsFor rules cs xs → StandsFor rules ds ys → B rules xs before (total m) after → C rules ys before' (total n) after'
-    → take m after ≡ take n after' → cs ≡ ds
+SameBytesSameList B C = (rules : Rules) (xs ys : List Item) (before before' after after' : List ℕ) (m n : ℕ)
+    → B rules xs before (total m) after → C rules ys before' (total n) after' → take m after ≡ take n after' → EqualLists (recsIn xs) (recsIn ys)
 
 -- the length that is asked beforehand: what the build answers, but for a total that has no room
 pub data LengthAgrees (length-says : Built) (room : ℕ) (build-says : Built) : Type 0 where

@@ -13,14 +13,16 @@ use Rattle.walk.specs.Step.{Found, Heading}
 use Rattle.walk.specs.Told.{toldStep}
 use Rattle.walk.specs.declared.step.Step.{Step}
 use Rattle.build.specs.Build.{Built, totalOf, buildOf}
-use Rattle.build.specs.Told.{toldBuild}
+use Rattle.build.specs.Told.{toldBuild, toldHanded}
+use Rattle.build.specs.declared.handed.Handed.{Handed}
 use Rattle.build.specs.declared.packed.BuildAnswer.{BuildAnswer}
 use Rattle.build.specs.declared.record.Record.{Record}
-use Rattle.lent.specs.Iterator.{fresh, nexted, nthAnswer}
+use Rattle.lent.specs.Iterator.{fresh, nexted, nextedRecord, nthAnswer}
 use Rattle.lent.specs.Records.{itemsOf}
 use Rattle.lent.specs.declared.iterator.MacCommandIterator.{MacCommandIterator}
 use Rattle.lent.proofs.iterator.MacCommandIterator.new as new
 use Rattle.lent.proofs.iterator.MacCommandIterator.next as next
+use Rattle.lent.proofs.iterator.MacCommandIterator.next_record as next-record
 use Rattle.lent.proofs.iterator.parse_uplink_mac_commands as parse-uplink
 use Rattle.lent.proofs.iterator.parse_downlink_mac_commands as parse-downlink
 use Rattle.lent.proofs.iterator.nth_step as nth-step
@@ -43,6 +45,9 @@ pub record ByHand : Type 2 where
   pub next : (κs : Lfts 2) (it : RefT MacCommandIterator) (r : Step) (exit : RefT MacCommandIterator × Unit)
       → Exactly (Admits next.ended (λ M 𝓤. next.clauses 𝓤) κs (it, tt) r exit)
       (_≡_ {A = Answer (Found Heading) × MacCommandIterator} (toldStep r, now (exit .0)) (nexted (now it)))
+  pub next-record : (κs : Lfts 2) (it : RefT MacCommandIterator) (frame : ℕ) (r : Handed) (exit : RefT MacCommandIterator × (ℕ × Unit))
+      → Exactly (Admits next-record.ended (λ M 𝓤. next-record.clauses 𝓤) κs (it, (frame, tt)) r exit)
+      (_≡_ {A = (Answer (Found Heading) × Record) × MacCommandIterator} (toldHanded r, now (exit .0)) (nextedRecord frame (now it)))
   pub nth-step : (κs : Lfts 1) (rules : Rules) (s : RefT (List ℕ)) (n : ℕ) (r : Step) (exit : Rules × (RefT (List ℕ) × (ℕ × Unit)))
       → Exactly (Admits nth-step.ended (λ M 𝓤. nth-step.clauses 𝓤) κs (rules, (s, (n, tt))) r exit) (toldStep r ≡ nthAnswer (lengthOf rules) (now s) n)
   pub records-len : (κs : Lfts 1) (rules : Rules) (records : RefT (List Record)) (r : BuildAnswer) (exit : Rules × (RefT (List Record) × Unit))

@@ -1,5 +1,5 @@
--- The demands (RULES: D1 to D3), each as one statement, and what holds of masks, command types, the seconds, the chooser and the listing. They speak
--- of functions: each holds of every outcome that the contracts of the public functions admit, so a body that is changed together with its contract
+-- The demands (RULES: D1 to D3), each as one statement, and what holds of masks, command types, the seconds, where a command came from, the chooser
+-- and the listing. They speak of functions: each holds of every outcome that the contracts of the public functions admit, so a body that is changed together with its contract
 -- can't pass unless the sentence still holds of it.
 use Prim.Native.Nat.{ℕ}
 use mathlib.Core.List.{List}
@@ -12,6 +12,7 @@ use Rattle.claims.specs.Examples.{ExamplesHold, Lifted}
 use Rattle.claims.specs.Flags.{FlagsTell}
 use Rattle.claims.specs.Keeping.{RefusalsKeep, MasksTell}
 use Rattle.claims.specs.Listing.{ListingsTell}
+use Rattle.claims.specs.Origins.{OriginsTell}
 use Rattle.claims.specs.Owning.{OneOwner, NextIsStep}
 use Rattle.claims.specs.Time.{TimeTells}
 
@@ -29,6 +30,8 @@ pub record Demands : Type 2 where
   -- D3a to D3c: each byte of each stream has one owner
   pub one-owner : (rules : Rules) (stream : RefT (List ℕ)) → OneOwner rules stream
   pub next-is-step : NextIsStep
+  -- W7 and B5: where a command came from
+  pub origins-tell : OriginsTell
   -- D3d and D3e: what is built reads back as it was
   pub builds : Builds
   -- the claims that speak of contracts by hand speak of something

@@ -1,7 +1,7 @@
--- The examples of RULES, P1 to P15, as one list. Each holds of every outcome that the contracts of the functions that it names admit.
+-- The examples of RULES, P1 to P15 and P17, as one list. Each holds of every outcome that the contracts of the functions that it names admit.
 use Prim.Native.Nat.{ℕ}
 use mathlib.Core.Bool.{Bool, true, false}
-use mathlib.Core.List.{List, [], _∷_, _++_}
+use mathlib.Core.List.{List, [], _∷_, _++_, map}
 use mathlib.Core.Path.{_≡_}
 use lib.IntN.{ℤ, pos, negℤ}
 use denote.Ref.{RefT, now}
@@ -10,6 +10,7 @@ use Rattle.table.specs.Table.{named}
 use Rattle.table.specs.Told.{toldVerdict}
 use Rattle.table.specs.declared.rules.Direction.{Direction}
 use Rattle.table.specs.declared.rules.Direction.the-variants.{Down, Up}
+use Rattle.table.specs.declared.rules.Rules.{Rules}
 use Rattle.fields.specs.Told.{toldRange, toldEnabled}
 use Rattle.fields.specs.declared.channel_mask.ChannelMask2Answer.{ChannelMask2Answer}
 use Rattle.fields.specs.declared.channel_mask.EnabledAnswer.{EnabledAnswer}
@@ -23,7 +24,8 @@ use Rattle.creators.specs.declared.device_time.DeviceTimeAnsCreatorAnswer.{Devi
 use Rattle.creators.specs.declared.tx_param_setup.TXParamSetupReqCreator.{TXParamSetupReqCreator}
 use Rattle.creators.specs.declared.tx_param_setup.TXParamSetupReqCreatorAnswer.{TXParamSetupReqCreatorAnswer}
 use Rattle.walk.specs.Walk.{Placed, placed, Ending, end, stop}
-use Rattle.build.specs.Records.{slotsOf}
+use Rattle.build.specs.Handed.{fromFrame}
+use Rattle.build.specs.Records.{frameless, slotsOf}
 use Rattle.build.specs.Build.{Built, total}
 use Rattle.build.specs.Build as Build
 use Rattle.build.specs.declared.record.Record.{Record}
@@ -47,7 +49,8 @@ use Rattle.creators.proofs.tx_param_setup.TXParamSetupReqCreator.new.Reads as t
 use Rattle.creators.proofs.tx_param_setup.TXParamSetupReqCreator.set_max_eirp.Reads as set-max-eirp
 use Rattle.creators.proofs.tx_param_setup.TXParamSetupReqCreator.set_downlink_dwell_time.Reads as set-dwell
 use Rattle.claims.specs.Building.{FromSlots, FromStructs}
-use Rattle.claims.specs.Handing.{ReadAs}
+use Rattle.claims.specs.Handing.{ReadAs, recordSteps, recordIterator}
+use Rattle.claims.specs.Origins.{HandsOutRecords}
 use Rattle.claims.specs.Outcomes.{Gives}
 
 -- the answers whose `ack` P9 asks
@@ -59,6 +62,8 @@ pub data Answering : Type 0 where
 pub data Example : Type 0 where
   -- a stream of a direction, and what is read of it: commands at their offsets, and the ending
   reads : Direction → (bytes : List ℕ) → List Placed → Ending → Example
+  -- a stream of a direction in a frame, what is handed out of it as records, and the ending
+  hands : Direction → (frame : ℕ) → (bytes : List ℕ) → List Record → Ending → Example
   -- three bytes, and the frequency in Hz
   frequency : (bytes : List ℕ) → (hz : ℕ) → Example
   -- the second byte of a DevStatusAns, and the margin, whatever the battery
@@ -81,6 +86,13 @@ pub data Example : Type 0 where
   channel-set : (mask : List ℕ) → ℕ → Bool → Consent → (after : List ℕ) → Example
   -- a byte, and the range made of it with the check
   range : ℕ → Answer ℕ → Example
+
+-- these records are handed out, by either entry, and then this ending
+pub record HandedOut (rules : Rules) (frame : ℕ) (stream : RefT (List ℕ)) (records : List Record) (ending : Ending) : Type 2 where
+  pub cmds : List Placed
+  pub same : map (fromFrame frame) cmds ≡ records
+  pub by-offsets : HandsOutRecords (recordSteps rules frame stream) frame cmds ending
+  pub by-iterator : HandsOutRecords (recordIterator rules frame stream) frame cmds ending
 
 -- whatever `ack` may answer is this
 abbrev pub Says : Answering → ℕ → Bool → Type 0
@@ -116,6 +128,7 @@ pub record Lifted (P : Type 0) : Type 2 where
 
 abbrev pub Holds : Example → Type 2
 Holds (reads d bytes cmds ending) = (stream : RefT (List ℕ)) → now stream ≡ bytes → ReadAs (record { direction = d }) stream cmds ending
+Holds (hands d frame bytes records ending) = (stream : RefT (List ℕ)) → now stream ≡ bytes → HandedOut (record { direction = d }) frame stream records ending
 Holds (frequency bytes hz) = Lifted ((s : RefT (List ℕ)) → now s ≡ bytes → (a : FrequencyAnswer) → Gives frequency-new.Post (s, tt) a → InHertz hz a)
 Holds (margin-reads b m) = Lifted ((battery : ℕ) (r : ℤ) → Gives margin.Post (record { 0 = battery; 1 = b }, tt) r → r ≡ m)
 Holds (no-margin m) =
@@ -131,7 +144,7 @@ Holds (channel-set m c on v after) =
     Lifted ((r : ChannelMask2Answer) → Gives set-channel.Post (record { 0 = m }, (c, (on, tt))) r → (toldVerdict (r .verdict) ≡ v) × (r .mask .0 ≡ after))
 Holds (range b r) = Lifted ((a : DataRateRangeAnswer) → Gives range-new.Post (b, tt) a → toldRange a ≡ r)
 
--- ---- P1 to P15
+-- ---- P1 to P15, P17
 
 -- a command, by its name, at an offset, with its payload
 abbrev pub linkCheckReq : ℕ → Placed
@@ -143,8 +156,8 @@ linkADRAns at b = placed at (named "LinkADRAns" .cid) (b ∷ [])
 -- records of LinkCheckReq and LinkADRAns `07`
 abbrev pub two : List Record
 two =
-    record { cid = named "LinkCheckReq" .cid; len = 0; payload = 0 ∷ 0 ∷ 0 ∷ 0 ∷ 0 ∷ [] } ∷
-    record { cid = named "LinkADRAns" .cid; len = 1; payload = 0x07 ∷ 0 ∷ 0 ∷ 0 ∷ 0 ∷ [] } ∷ []
+    frameless (record { cid = named "LinkCheckReq" .cid; len = 0; bytes = 0 ∷ 0 ∷ 0 ∷ 0 ∷ 0 ∷ [] }) ∷
+    frameless (record { cid = named "LinkADRAns" .cid; len = 1; bytes = 0x07 ∷ 0 ∷ 0 ∷ 0 ∷ 0 ∷ [] }) ∷ []
 
 -- the same in slots, whose eighth bytes don't count
 abbrev pub twoSlots : List ℕ
@@ -217,8 +230,23 @@ p14and15 =
     range 0x55 (given 0x55) ∷
     range 0x05 (refused 6) ∷ []
 
+-- P2's two commands as records of frame 7
+abbrev pub twoOfFrame7 : List Record
+twoOfFrame7 =
+    record { cid = named "LinkCheckReq" .cid; payload = 0 ∷ 0 ∷ 0 ∷ 0 ∷ 0 ∷ []; frame = 7; len = 0; offset = 0 } ∷
+    record { cid = named "LinkADRAns" .cid; payload = 0x00 ∷ 0 ∷ 0 ∷ 0 ∷ 0 ∷ []; frame = 7; len = 1; offset = 1 } ∷ []
+
+abbrev pub p17 : List Example
+p17 =
+    hands Up 7 (0x02 ∷ 0x03 ∷ 0x00 ∷ []) twoOfFrame7 (end 3) ∷
+    -- cut short, in the frame with the largest number
+    hands Down 4_294_967_295 (0x02 ∷ 0x03 ∷ 0x00 ∷ 0x0D ∷ [])
+    (record { cid = named "LinkCheckAns" .cid; payload = 0x03 ∷ 0x00 ∷ 0 ∷ 0 ∷ 0 ∷ []; frame = 4_294_967_295; len = 2; offset = 0 } ∷ []) (stop 2 3) ∷
+    -- no command
+    hands Up 7 [] [] (end 0) ∷ []
+
 abbrev pub examples : List Example
-examples = p1to6 ++ (p7to9 ++ (p10to13 ++ p14and15))
+examples = p1to6 ++ (p7to9 ++ (p10to13 ++ (p14and15 ++ p17)))
 
 -- the single claim: each of them holds
 abbrev pub All : List Example → Type 2

@@ -16,14 +16,20 @@ use Rattle.walk.specs.declared.step.Step.{Step}
 use Rattle.walk.specs.declared.command.UplinkStep.{UplinkStep}
 use Rattle.walk.specs.declared.command.DownlinkStep.{DownlinkStep}
 use Rattle.walk.specs.declared.whole.WalkEnd.{WalkEnd}
+use Rattle.build.specs.Records.{cmdOf, heldBy}
+use Rattle.build.specs.Told.{toldHanded}
+use Rattle.build.specs.declared.handed.Handed.{Handed}
+use Rattle.build.specs.declared.record.Record.{Record}
 use Rattle.lent.specs.declared.iterator.MacCommandIterator.{MacCommandIterator}
 use Rattle.walk.proofs.step.step_at.Reads as step-at
 use Rattle.walk.proofs.step.payload_at.Reads as payload-at
 use Rattle.walk.proofs.command.uplink_at.Reads as uplink-at
 use Rattle.walk.proofs.command.downlink_at.Reads as downlink-at
 use Rattle.walk.proofs.whole.walk.Reads as walk
+use Rattle.build.proofs.handed.record_at.Reads as record-at
 use Rattle.lent.proofs.iterator.MacCommandIterator.new as new
 use Rattle.lent.proofs.iterator.MacCommandIterator.next as next
+use Rattle.lent.proofs.iterator.MacCommandIterator.next_record as next-record
 use Rattle.lent.proofs.iterator.parse_uplink_mac_commands as parse-uplink
 use Rattle.lent.proofs.iterator.parse_downlink_mac_commands as parse-downlink
 use Rattle.claims.specs.Outcomes.{Gives, Admits}
@@ -42,7 +48,7 @@ abbrev pub withPayload : Answer (Found Heading) → List ℕ → Answer (Found C
 withPayload a payload = retold (λ (h : Heading). record { cid = h .cid; body = payload }) a
 
 -- who reads by offsets begins at 0, goes on behind a command, and stays where there is none
-abbrev pub onward : Answer (Found Cmd) → ℕ → ℕ
+abbrev pub onward : {A : Type 0} → Answer (Found A) → ℕ → ℕ
 onward (given (command c next)) at = next
 onward (given ended) at = at
 onward (given (stopped n o)) at = at
@@ -91,9 +97,43 @@ pub data NextAsked : MacCommandIterator → Answer (Found Cmd) → MacCommandIte
 abbrev pub iterator : Rules → RefT (List ℕ) → Front
 iterator rules stream = record { State = MacCommandIterator; begin = Made stream rules; ask = NextAsked; offset = λ it. it .index }
 
+-- ---- the entries that hand out records (W7)
+
+-- a way to read a stream as records: the same, and what is answered is a step with its record
+pub record RecordFront : Type 3 where
+  pub State : Type 0
+  pub begin : State → Type 2
+  pub ask : State → Answer (Found Heading) × Record → State → Type 2
+  pub offset : State → ℕ
+
+-- `record_at`, for a frame number
+pub data RecordAsked (rules : Rules) (frame : ℕ) (stream : RefT (List ℕ)) : ℕ → Answer (Found Heading) × Record → ℕ → Type 2 where
+  asked : (at : ℕ) (r : Handed) → Gives record-at.Post (rules, (frame, (stream, (at, tt)))) r
+      → RecordAsked rules frame stream at (toldHanded r) (onward (toldStep (r .step)) at)
+
+abbrev pub recordSteps : Rules → (frame : ℕ) → RefT (List ℕ) → RecordFront
+recordSteps rules frame stream = record { State = ℕ; begin = AtStart; ask = RecordAsked rules frame stream; offset = λ at. at }
+
+-- `next_record`, for a frame number
+pub data NextRecordAsked (frame : ℕ) : MacCommandIterator → Answer (Found Heading) × Record → MacCommandIterator → Type 2 where
+  asked : (it : RefT MacCommandIterator) (r : Handed) (κs : Lfts 2) (exit : RefT MacCommandIterator × (ℕ × Unit))
+      → Admits next-record.ended (λ M 𝓤. next-record.clauses 𝓤) κs (it, (frame, tt)) r exit
+      → NextRecordAsked frame (now it) (toldHanded r) (now (exit .0))
+
+abbrev pub recordIterator : Rules → (frame : ℕ) → RefT (List ℕ) → RecordFront
+recordIterator rules frame stream = record { State = MacCommandIterator; begin = Made stream rules; ask = NextRecordAsked frame; offset = λ it. it .index }
+
+-- read for the commands alone: a record's CID, and its payload to its length
+pub data CommandAsked (F : RecordFront) : F .State → Answer (Found Cmd) → F .State → Type 2 where
+  asked : (st st' : F .State) (x : Answer (Found Heading) × Record) → F .ask st x st'
+      → CommandAsked F st (retold (λ (h : Heading). cmdOf (heldBy (x .1))) (x .0)) st'
+
+abbrev pub commandsOf : RecordFront → Front
+commandsOf F = record { State = F .State; begin = F .begin; ask = CommandAsked F; offset = F .offset }
+
 -- ---- what is handed out
 
-abbrev pub NoCommand : Answer (Found Cmd) → Type 0
+abbrev pub NoCommand : {A : Type 0} → Answer (Found A) → Type 0
 NoCommand (given (command c next)) = ⊥
 NoCommand (given ended) = Unit
 NoCommand (given (stopped n at)) = Unit
@@ -124,6 +164,8 @@ module _ (F : Front) where
 pub record ReadAs (rules : Rules) (stream : RefT (List ℕ)) (cmds : List Placed) (ending : Ending) : Type 2 where
   pub by-steps : HandsOut (steps rules stream) cmds ending
   pub by-iterator : HandsOut (iterator rules stream) cmds ending
+  pub as-records : (frame : ℕ) → HandsOut (commandsOf (recordSteps rules frame stream)) cmds ending
+  pub by-record-iterator : (frame : ℕ) → HandsOut (commandsOf (recordIterator rules frame stream)) cmds ending
   pub typed-up : rules ≡ sentUp → HandsOut (uplinkSteps stream) cmds ending
   pub typed-down : rules ≡ sentDown → HandsOut (downlinkSteps stream) cmds ending
   pub whole : (w : WalkEnd) → Gives walk.Post (rules, (stream, tt)) w → toldWalk w ≡ (given ending, length cmds)

@@ -32,9 +32,9 @@ use Rattle.creators.specs.declared.tx_param_setup.TXParamSetupReqCreator.{TXPar
 use Rattle.creators.specs.declared.tx_param_setup.TXParamSetupReqCreatorAnswer.{TXParamSetupReqCreatorAnswer}
 use Rattle.creators.specs.declared.device_time.DeviceTimeAnsCreator.{DeviceTimeAnsCreator}
 use Rattle.creators.specs.declared.device_time.DeviceTimeAnsCreatorAnswer.{DeviceTimeAnsCreatorAnswer}
-use Rattle.walk.specs.Step.{Found}
+use Rattle.walk.specs.Step.{Found, Heading}
 use Rattle.walk.specs.Walk.{Cmd}
-use Rattle.build.specs.Records.{Rec, heldBy, commandBytes, packedAt}
+use Rattle.build.specs.Records.{Rec, heldBy, noRecord, commandBytes, packedAt}
 use Rattle.build.specs.declared.record.Record.{Record}
 use Rattle.lent.specs.declared.iterator.MacCommandIterator.{MacCommandIterator}
 use Rattle.fields.proofs.channel_mask.ChannelMask2.default.Reads as default-2
@@ -61,7 +61,7 @@ use Rattle.creators.proofs.device_time.DeviceTimeAnsCreator.set_nano_seconds.Re
 use Rattle.build.proofs.record.Record.write.Reads as write
 use Rattle.build.proofs.record.Record.pack.Reads as pack
 use Rattle.claims.specs.Building.{RefusedKeeps, FromSlots, FromStructs, FromFour}
-use Rattle.claims.specs.Handing.{NextAsked}
+use Rattle.claims.specs.Handing.{NextAsked, NextRecordAsked}
 use Rattle.claims.specs.Outcomes.{Gives, GivesWith}
 
 -- a call with an argument that may be bad: the state before it, the state that was asked for, and the state after it
@@ -82,6 +82,8 @@ pub record RefusalsKeep : Type 2 where
   pub four : RefusedKeeps FromFour
   -- an iterator that stands past its stream
   pub next : (it : MacCommandIterator) (a : Answer (Found Cmd)) (it' : MacCommandIterator) (n : ℕ) → NextAsked it a it' → a ≡ refused n → it' ≡ it
+  pub next-record : (frame : ℕ) (it : MacCommandIterator) (x : Answer (Found Heading) × Record) (it' : MacCommandIterator) (n : ℕ) → NextRecordAsked frame it x it' → x .0 ≡ refused n
+      → (x .1 ≡ noRecord) × (it' ≡ it)
   -- the memory that one record is written to, or packed into: where it has no room, nothing is written, and the offset stays
   pub write : (r : Record) (out : RefT (List ℕ)) (at next : ℕ) (after : List ℕ) → GivesWith (λ s. now (s .1 .0)) write.Post (r, (out, (at, tt))) next after
       → Written (now out) at (heldBy r) next after

@@ -7,6 +7,7 @@ pub mod Flags
 pub mod Handing
 pub mod Keeping
 pub mod Listing
+pub mod Origins
 pub mod Outcomes
 pub mod Owning
 pub mod Time

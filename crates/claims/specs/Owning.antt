@@ -26,7 +26,7 @@ use Rattle.walk.proofs.whole.walk.Reads as walk
 use Rattle.walk.proofs.whole.walk_from.Reads as walk-from
 use Rattle.lent.specs.declared.iterator.MacCommandIterator.{MacCommandIterator}
 use Rattle.lent.proofs.iterator.MacCommandIterator.next as next
-use Rattle.claims.specs.Handing.{Front, NoCommand, Calls, ReadAs, steps, uplinkSteps, downlinkSteps, iterator, withPayload}
+use Rattle.claims.specs.Handing.{Front, NoCommand, Calls, ReadAs, steps, uplinkSteps, downlinkSteps, iterator, recordSteps, recordIterator, commandsOf, withPayload}
 use Rattle.claims.specs.Outcomes.{Gives, Admits}
 
 module _ (rules : Rules) (stream : RefT (List ℕ)) where
@@ -94,6 +94,8 @@ module _ (rules : Rules) (stream : RefT (List ℕ)) where
   pub record OneOwner : Type 2 where
     pub by-steps : OneOwnerBy (steps rules stream)
     pub by-iterator : OneOwnerBy (iterator rules stream)
+    pub as-records : (frame : ℕ) → OneOwnerBy (commandsOf (recordSteps rules frame stream))
+    pub by-record-iterator : (frame : ℕ) → OneOwnerBy (commandsOf (recordIterator rules frame stream))
     pub typed-up : rules ≡ sentUp → OneOwnerBy (uplinkSteps stream)
     pub typed-down : rules ≡ sentDown → OneOwnerBy (downlinkSteps stream)
     pub whole : (w : WalkEnd) → Gives walk.Post (rules, (stream, tt)) w → WholeWalk w

@@ -5,7 +5,7 @@ use denote.Slice.{Room}
 use Rattle.build.proofs.record.Record as T
 
 abbrev pub bytes : ℕ
-bytes = 24
+bytes = 32
 
 -- an element's offset fits, since the bytes of all elements do
 pub offset-fits : (n i : ℕ) → Room T.the-row n → i < n → i * bytes < 2 ^ 64

@@ -7,6 +7,8 @@ use Rattle.table.specs.Table.{lengthOf}
 use Rattle.table.specs.declared.rules.Rules.{Rules}
 use Rattle.walk.specs.Walk.{Rule}
 use Rattle.walk.specs.Step.{Found, ended, command, stopped, Heading, stepAt}
+use Rattle.build.specs.Handed.{handedAt}
+use Rattle.build.specs.declared.record.Record.{Record}
 use Rattle.lent.specs.declared.iterator.MacCommandIterator.{MacCommandIterator}
 
 -- the offset of the next step: behind a command, and the same where there is none
@@ -30,6 +32,14 @@ stepOf it = stepAt (lengthOf (it .rules)) (it .«data» .now) (it .index)
 -- one call of `next`: that step, and the iterator moved by it
 abbrev pub nexted : MacCommandIterator → Answer (Found Heading) × MacCommandIterator
 nexted it = (stepOf it, atIndex it (movedTo (stepOf it) (it .index)))
+
+-- what stands at its index, as a record of a frame's stream (RULES: W7)
+abbrev pub handedBy : (frame : ℕ) → MacCommandIterator → Answer (Found Heading) × Record
+handedBy frame it = handedAt (lengthOf (it .rules)) frame (it .«data» .now) (it .index)
+
+-- one call of `next_record`: that record, and the iterator as `next` leaves it
+abbrev pub nextedRecord : (frame : ℕ) → MacCommandIterator → (Answer (Found Heading) × Record) × MacCommandIterator
+nextedRecord frame it = (handedBy frame it, nexted it .1)
 
 -- the index of a fresh iterator after n calls of `next`
 unfoldable pub indexAfter : Rule → List ℕ → ℕ → ℕ

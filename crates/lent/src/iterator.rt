@@ -1,3 +1,5 @@
+use build::Handed;
+use build::record_at;
 use table::Direction;
 use table::Rules;
 use walk::Step;
@@ -8,7 +10,8 @@ ghost use lib.Dec.{ltb};
 ghost use Rattle.table.specs.Table.{lengthOf};
 ghost use Rattle.payloads.specs.Commands.{sentUp, sentDown};
 ghost use Rattle.walk.specs.Told.{toldStep};
-ghost use Rattle.lent.specs.Iterator.{movedTo, fresh, nexted, nthAnswer};
+ghost use Rattle.build.specs.Told.{toldHanded};
+ghost use Rattle.lent.specs.Iterator.{movedTo, fresh, nexted, nextedRecord, nthAnswer};
 
 // A stream, the offset in it at which the next command stands, and the rules that it is read by.
 pub struct MacCommandIterator<'a> {
@@ -52,6 +55,16 @@ impl<'a> MacCommandIterator<'a> {
         let index = behind(found, self.index);
         self.index = index;
         found
+    }
+
+    // The same as a record, for a stream that came in this frame.
+    pub fn next_record(&mut self, frame: u32) -> Handed
+        ensures { λ r. ⌜ (toldHanded r, now (self .exit)) ≡ nextedRecord frame (now (self .entry)) ⌝ }
+    {
+        let handed = record_at(self.rules, frame, self.data, self.index);
+        let index = behind(handed.step, self.index);
+        self.index = index;
+        handed
     }
 
     pub fn data(self) -> &'a [u8]

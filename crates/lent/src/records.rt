@@ -74,7 +74,7 @@ impl Tally {
     }
 }
 
-fn record_at(records: &[Record], i: usize) -> Record
+fn nth_record(records: &[Record], i: usize) -> Record
     requires { ⌜ i < length (now records) ⌝ }
     ensures { λ r. ⌜ r ≡ getD (now (records .entry)) i noRecord ⌝ }
 {
@@ -87,7 +87,7 @@ pub fn records_len(rules: Rules, records: &[Record]) -> BuildAnswer
 {
     let mut tally = Tally::begin(records.len());
     while 0 < tally.left {
-        let record = record_at(records, tally.place);
+        let record = nth_record(records, tally.place);
         tally = tally.with(rules, record);
     }
     tally.answer
@@ -134,7 +134,7 @@ fn write_records(records: &[Record], out: &mut [u8])
     let mut at: usize = 0;
     let mut i: usize = 0;
     while i < records.len() {
-        let record = record_at(records, i);
+        let record = nth_record(records, i);
         at = record.write(out, at);
         i += 1;
     }

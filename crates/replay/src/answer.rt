@@ -104,11 +104,14 @@ impl Answer {
         self.byte(cid).length(len).all(image)
     }
 
+    // A record that came from no frame.
     pub(crate) fn record(self, record: Record) -> Answer {
         let payload = record.payload;
         self.byte(record.cid)
             .length(record.len)
             .front(&payload, record.len)
+            .only_where(record.frame == 0)
+            .only_where(record.offset == 0)
     }
 
     // The first n bytes alone.

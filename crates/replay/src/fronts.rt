@@ -1,5 +1,6 @@
 // The two forms proved by hand, through the fronts of theirs that need no proof by hand: the iterator's calls one by one, and the build
-// over structs of four records. tools/differential puts oracle/direct.txt in the place of this file, which calls them directly.
+// over structs of four records. `tools/differential direct` puts oracle/direct.txt in the place of this file, which calls them
+// directly.
 use crate::reading::byte;
 use crate::reading::from;
 use build::BuildAnswer;
@@ -19,17 +20,14 @@ pub(crate) fn nth_step(up: bool, stream: &[u8], n: usize) -> Step {
 }
 
 fn record_of(slot: &[u8]) -> Record {
-    Record {
-        cid: byte(slot, 0),
-        len: byte(slot, 1) as usize,
-        payload: [
-            byte(slot, 2),
-            byte(slot, 3),
-            byte(slot, 4),
-            byte(slot, 5),
-            byte(slot, 6),
-        ],
-    }
+    let payload = [
+        byte(slot, 2),
+        byte(slot, 3),
+        byte(slot, 4),
+        byte(slot, 5),
+        byte(slot, 6),
+    ];
+    Record::new(byte(slot, 0), byte(slot, 1) as usize, payload)
 }
 
 fn four_of(slots: &[u8]) -> [Record; 4] {

@@ -12,6 +12,7 @@ mod masks;
 mod payloads_down;
 mod payloads_up;
 mod reading;
+mod rebuilt;
 mod report;
 mod small;
 mod streams;

@@ -1,9 +1,10 @@
 // Entries A0 to A5: the walk over a stream, an iterator's calls, and a command as a record, each down and up. At each offset of a walk
-// the step in numbers, the typed command and the payload part must agree.
+// the step in numbers, the typed command and the payload part must agree, and the walk's records must build the stream again.
 use crate::answer::Answer;
 use crate::fronts;
 use crate::reading::from;
 use crate::reading::two;
+use crate::rebuilt;
 use build::Record;
 use payloads::PayloadBytes;
 use table::Direction;
@@ -116,8 +117,10 @@ fn rules_of(up: bool) -> Rules {
 }
 
 fn whole(up: bool, stream: &[u8], out: &mut [u8]) -> usize {
-    let end = walk::walk(rules_of(up), stream);
-    let told = told_walk(end).put(out, 0);
+    let rules = rules_of(up);
+    let end = walk::walk(rules, stream);
+    let told = told_walk(end).only_where(rebuilt::same(rules, stream, end.count));
+    let told = told.put(out, 0);
     commands(up, stream, end.count, out, told)
 }
 

@@ -14,7 +14,7 @@ use Rattle.walk.specs.Part.{payloadPart}
 use Rattle.walk.specs.Step.{Found, stopped, firstOf, inNumbers, stepAt}
 use Rattle.walk.specs.Walk.{Rule, Cmd, Placed, Ending, end, stop, placeOf, Walk, finish, after, walkFrom, walkOf, encode, size, place, bare}
 use Rattle.walk.proofs.Laws.{afterAll, View, ends, goes, view, walk-nil, walk-command, walk-ends, ends-at, walk-front, Parted, parted, begins, stands}
-use Rattle.walk.proofs.Steps.{Goes, Here, here, past, ends as ends-here, goes as goes-here, ended-no-command, found-past, found-ends, found-goes, found-command, walk-goes}
+use Rattle.walk.proofs.Steps.{Goes, Here, here, past, ends as ends-here, goes as goes-here, ended-no-command, found-past, found-ends, found-goes, found-command, goes-body, walk-goes}
 
 pub bare-place : (at : ℕ) (cs : List Cmd) → bare (place at cs) ≡ cs
 bare-place at [] = refl
@@ -173,8 +173,5 @@ module _ (L : Rule) (s : List ℕ) where
 
 pub payload-shown : (L : Rule) (s : RefT (List ℕ)) → PayloadShown L s
 payload-shown L s at next c f =
-    let g = found-command L (s .now) f in
-    let behind : drop (at + 1) (s .now) ≡ c .body ++ drop next (s .now) = sym (drop-drop 1 at (s .now)) ∙ ap (drop 1) (g .bytes) in
     ap (λ (a : Answer (Found Cmd)). payloadPart s at (inNumbers a)) f
-    ∙ ap (λ (b : List ℕ). record { place = (s .ptr .0, at + 1 + s .ptr .1); bytes = b })
-    (ap (take (length (c .body))) behind ∙ take-append-seam (c .body) (drop next (s .now)))
+    ∙ ap (λ (b : List ℕ). record { place = (s .ptr .0, at + 1 + s .ptr .1); bytes = b }) (goes-body L (s .now) (found-command L (s .now) f))

@@ -8,7 +8,7 @@ use native.Mathlib.Nat.{zero-add, add-zero, add-assoc}
 use native.Mathlib.Numerals.{add-one, one-add}
 use native.Mathlib.Omega.{arith}
 use lib.ListN.{length, getD, take, drop, length-drop, take-append-drop, drop-of-length-le}
-use lib.Seq.{drop-cons, drop-drop, length-take-le}
+use lib.Seq.{drop-cons, drop-drop, length-take-le, take-append-seam}
 use borrow.Author.Tests.{le-leb, lt-leb, lt-ltb, le-ltb}
 use Rattle.table.specs.Answers.{Answer, given, refused, accepted}
 use Rattle.walk.specs.Ownership.{Ends, nothing-left, no-cid, cut-short}
@@ -37,6 +37,11 @@ module _ (L : Rule) (s : List ℕ) where
     pub known : L (c .cid) ≡ some (length (c .body))
     pub behind : next ≡ at + size c
     pub fits : next ≤ length s
+
+  -- its payload stands behind its CID
+  pub goes-body : {at : ℕ} {c : Cmd} {next : ℕ} → Goes at c next → take (length (c .body)) (drop (at + 1) s) ≡ c .body
+  goes-body {at} {c} {next} g =
+      ap (take (length (c .body))) (sym (drop-drop 1 at s) ∙ ap (drop 1) (g .bytes)) ∙ take-append-seam (c .body) (drop next s)
 
   pub data Here (at : ℕ) : Type 0 where
     past : length s < at → Here at

@@ -8,7 +8,7 @@ use borrow.Author.Tests.{le-leb, lt-leb}
 use Rattle.table.specs.Answers.{given, refused}
 use Rattle.table.specs.Refusals.{numberOf}
 use Rattle.table.specs.Table.{lengthOf}
-use Rattle.build.specs.Records.{part, slotAt, slotsOf, judged}
+use Rattle.build.specs.Records.{part, heldBy, slotAt, slotsOf, judged}
 use Rattle.build.specs.Build.{sumFrom, totalOf}
 use Rattle.build.specs.Told.{toldJudged}
 use Rattle.build.proofs.Judging.{at-most-six}
@@ -66,7 +66,7 @@ add-sum c =
     let l = f .loop in
     let h : l .i < length s / 8 = omega arith in
     let j : judged (lengthOf (a .rules)) (slotAt s (l .i)) ≡ given (c .before .judged .given .0 .0) =
-    ap (judged (lengthOf (a .rules))) (sym (c .before .before .before .before .slot .ensures))
+    ap (judged (lengthOf (a .rules))) (sym (ap heldBy (c .before .before .before .before .slot .ensures)))
     ∙ sym (c .before .before .before .judge .ensures)
     ∙ ap toldJudged (c .before .judged .given .1) in
     record { fits = omega (arith, at-most-six (a .rules) (slotAt s (l .i)) _ j) }
@@ -85,7 +85,7 @@ loop-again c =
     let l = f .loop in
     let h : l .i < length s / 8 = omega arith in
     let j : judged (lengthOf (a .rules)) (slotAt s (l .i)) ≡ given (c .before .judged .given .0 .0) =
-    ap (judged (lengthOf (a .rules))) (sym (c .before .before .before .before .slot .ensures))
+    ap (judged (lengthOf (a .rules))) (sym (ap heldBy (c .before .before .before .before .slot .ensures)))
     ∙ sym (c .before .before .before .judge .ensures)
     ∙ ap toldJudged (c .before .judged .given .1) in
     let m = at-most-six (a .rules) (slotAt s (l .i)) _ j in (
@@ -105,7 +105,7 @@ returns-2 c =
     let l = f .loop in
     let h : l .i < length s / 8 = omega arith in
     let j : judged (lengthOf (a .rules)) (slotAt s (l .i)) ≡ refused (numberOf (c .before .judged2 .given .0 .0)) =
-    ap (judged (lengthOf (a .rules))) (sym (c .before .before .before .before .slot .ensures))
+    ap (judged (lengthOf (a .rules))) (sym (ap heldBy (c .before .before .before .before .slot .ensures)))
     ∙ sym (c .before .before .before .judge .ensures)
     ∙ ap toldJudged (c .before .judged2 .given .1) in
     sym (sum-refused (lengthOf (a .rules)) (slotsOf s) (l .i) (l .sum) _ _ (slot-at s (l .i) h) j)

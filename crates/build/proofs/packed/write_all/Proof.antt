@@ -1,6 +1,6 @@
 -- `write_all` meets its contract. The loop's invariant: i records stand at the front, and `at` is behind them. Assumes nothing.
 use Prim.Native.Nat.{ℕ, _+_, _-_, _/_, _<_, _≤_}
-use mathlib.Core.Path.{_≡_, sym, _∙_, subst}
+use mathlib.Core.Path.{_≡_, sym, ap, _∙_, subst}
 use mathlib.Core.List.{map}
 use native.Mathlib.Omega.{arith}
 use lib.ListN.{length, getD}
@@ -38,7 +38,7 @@ lay-requires c κs =
     let s = start .args .records .now in
     let h : l .i < length s / 8 = omega arith in
     let n = slots-length s in
-    let same : slotAt s (l .i) ≡ heldBy (c .before .slot .result) = sym (c .before .slot .ensures) in
+    let same : slotAt s (l .i) ≡ heldBy (c .before .slot .result) = sym (ap heldBy (c .before .slot .ensures)) in
     let room : l .at + length (commandBytes (getD (wholeSlots s) (l .i) (slotAt s (l .i)))) ≤ length (encode (map cmdOf (wholeSlots s))) =
     laid-room (wholeSlots s) (start .args .out .now) (fits start) (slotAt s (l .i)) (omega arith) (l .inv .1) in
     let here : l .at + length (commandBytes (heldBy (c .before .slot .result))) ≤ length (encode (map cmdOf (wholeSlots s))) =
@@ -60,7 +60,7 @@ loop-again c =
     let h : l .i < length s / 8 = omega arith in
     let n = slots-length s in
     let r = c .before .before .before .before .slot in
-    let same : heldBy (r .result) ≡ getD (wholeSlots s) (l .i) (slotAt s (l .i)) = r .ensures ∙ sym (slot-in s (l .i) h) in
+    let same : heldBy (r .result) ≡ getD (wholeSlots s) (l .i) (slotAt s (l .i)) = ap heldBy (r .ensures) ∙ sym (slot-in s (l .i) h) in
     let next = c .before .before .lay .result in
     let o = c .before .before .lay .last .1 .0 in (
       omega arith,

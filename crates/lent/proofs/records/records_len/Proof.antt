@@ -1,4 +1,4 @@
--- `records_len` meets its contract: a walk of its MIR, by hand, with a loop in it. A turn calls `record_at` on a copy of the slice, and `Tally::with` on
+-- `records_len` meets its contract: a walk of its MIR, by hand, with a loop in it. A turn calls `nth_record` on a copy of the slice, and `Tally::with` on
 -- the tally, which goes by value and comes back in its local. A state of the loop is a tally, with what is known of it (`Counting`). All that the proof
 -- knows of the callees is that each meets its contract. Assumes nothing.
 use mathlib.Core.Path.{_≡_, refl, sym, ap, _∙_, subst}
@@ -70,10 +70,10 @@ use Rattle.lent.proofs.records.Tally.with as with-one
 use Rattle.lent.proofs.records.Tally.with.Symbol as with-one-def
 use Rattle.lent.proofs.records.Tally.with.Symbol.{name as #with}
 use Rattle.lent.proofs.records.Tally.with.Met as with-one-thm
-use Rattle.lent.proofs.records.record_at as record-at
-use Rattle.lent.proofs.records.record_at.Symbol as record-at-def
-use Rattle.lent.proofs.records.record_at.Symbol.{name as #record-at}
-use Rattle.lent.proofs.records.record_at.Met as record-at-thm
+use Rattle.lent.proofs.records.nth_record as nth-record
+use Rattle.lent.proofs.records.nth_record.Symbol as nth-record-def
+use Rattle.lent.proofs.records.nth_record.Symbol.{name as #nth-record}
+use Rattle.lent.proofs.records.nth_record.Met as nth-record-thm
 use Rattle.lent.proofs.records.records_len.Key.{name as #records-len}
 use Rattle.lent.proofs.records.records_len as records-len
 use Rattle.lent.proofs.records.records_len.Statement as stated
@@ -152,7 +152,7 @@ module _ {M : Type 1} (𝓤 : URA M) (H : Heap 𝓤) (A : Atoms 𝓤) (W : Given
       suffices ! _ (ends-at 𝓤 H A records-len.ended stayed (records-len.clauses 𝓤 H A mem run) W bound w a (tt, (tt, tt)) (tt, (tt, tt))) $ says ! e $
       move ! (1 ∷ []) $ frame ! $ nothing ! $ move ! (1 ∷ 0 ∷ []) $ fjoin ! $ gives-rules ! rules u rules-is $ fjoin ! $ frame ! $ gives-answer ! a w is $ done !
 
-  module _ (𝓣 : Tables 𝓤 H) (begins : Triple 𝓤 (𝓣 .C #begin) (Met 𝓤 H A begin.ended (begin.clauses 𝓤 H A mem run))) (finds : Triple 𝓤 (𝓣 .C #record-at) (Met 𝓤 H A record-at.ended (record-at.clauses 𝓤 H A mem run)))
+  module _ (𝓣 : Tables 𝓤 H) (begins : Triple 𝓤 (𝓣 .C #begin) (Met 𝓤 H A begin.ended (begin.clauses 𝓤 H A mem run))) (finds : Triple 𝓤 (𝓣 .C #nth-record) (Met 𝓤 H A nth-record.ended (nth-record.clauses 𝓤 H A mem run)))
       (counts : Triple 𝓤 (𝓣 .C #with) (Met 𝓤 H A with-one.ended (with-one.clauses 𝓤 H A mem run))) where
     abbrev C : Calls 𝓤 H
     C = 𝓣 .C
@@ -204,10 +204,10 @@ module _ {M : Type 1} (𝓤 : URA M) (H : Heap 𝓤) (A : Atoms 𝓤) (W : Given
           assigns ! (bin ! (lit ! tt) (load ! (from ! (fld ! refl (stop !))) (look-in ! 8 (sub ! 3 refl (whole !)))) tt) (from ! (stop !)) (init ! 2 refl (tt, tt)) $
           rewrite ! 2 (λ (z : Bool). ‵ (fat fullShare tyBool l₆ 0 (vbool z))) on refl $
           stays ! (load ! (from ! (stop !)) (look ! 2 refl)) $
-          -- `record_at`, on a copy of the slice
+          -- `nth_record`, on a copy of the slice
           use1 W (‵ Own ⊛ ‵ Own) (shr-slice-copy 𝓤 H A W (named 0) κ T.the-row .twice s (v ∷ [])) $ split ! $
           nothing ! $ gives-usize ! place fits $ fjoin ! $ move ! (1 ∷ 0 ∷ []) $ fjoin ! $ move ! (0 ∷ 2 ∷ []) $
-          asks ! fm record-at.ended (record-at.clauses 𝓤 H A mem run) finds (((κ, tt), (q, tt), tt, (s, (place, tt)), (v ∷ [], (vint w64 place ∷ [], tt))), tt) (factI 𝓤 _ (emp 𝓤) less)
+          asks ! fm nth-record.ended (nth-record.clauses 𝓤 H A mem run) finds (((κ, tt), (q, tt), tt, (s, (place, tt)), (v ∷ [], (vint w64 place ∷ [], tt))), tt) (factI 𝓤 _ (emp 𝓤) less)
           (and-then ! (load ! (from ! (stop !)) (look ! 10 refl)) (and-then ! (load ! (from ! (fld ! refl (stop !))) (look-in ! 8 (sub ! 2 refl (whole !)))) (no-more !)))
           (λ r _. r ≡ getD ys place noRecord) (λ r _. id⊢ 𝓤 _) (λ w r _ e is.
           -- [the record; the token; true; what records owns; _6 4; _5 6; _4 8; _3 10; _2 12; _1 14; _0 16]
@@ -276,7 +276,7 @@ module _ {M : Type 1} (𝓤 : URA M) (H : Heap 𝓤) (A : Atoms 𝓤) (W : Given
         starts c e is = state rules ys c (begun n) e is (subst (λ (m : ℕ). Counting (lengthOf rules) (itemsOf ys) (begun m)) (items-length ys) (counting-begun (lengthOf rules) (itemsOf ys)))
 
 module _ {M : Type 1} (𝓤 : URA M) (H : Heap 𝓤) (A : Atoms 𝓤) (W : Given 𝓤 H A) (mem : Memory → SProp 𝓤) (run : Routine → Fun 𝓤) (𝓣 : Tables 𝓤 H) (begins : Triple 𝓤 (𝓣 .C #begin) (Met 𝓤 H A begin.ended (begin.clauses 𝓤 H A mem run)))
-    (finds : Triple 𝓤 (𝓣 .C #record-at) (Met 𝓤 H A record-at.ended (record-at.clauses 𝓤 H A mem run))) (counts : Triple 𝓤 (𝓣 .C #with) (Met 𝓤 H A with-one.ended (with-one.clauses 𝓤 H A mem run))) where
+    (finds : Triple 𝓤 (𝓣 .C #nth-record) (Met 𝓤 H A nth-record.ended (nth-record.clauses 𝓤 H A mem run))) (counts : Triple 𝓤 (𝓣 .C #with) (Met 𝓤 H A with-one.ended (with-one.clauses 𝓤 H A mem run))) where
   walks : Walks 𝓤 H A records-len.ended stayed (WpFn 𝓤 H (𝓣 .C) (𝓣 .Λ) code.function) (records-len.clauses 𝓤 H A mem run)
   walks = walked 𝓤 H A records-len.ended stayed (records-len.clauses 𝓤 H A mem run) (WpFn 𝓤 H (𝓣 .C) (𝓣 .Λ) code.function) (λ κs. (LL.vals R.the-type R′.the-laws, (slice-vals, tt)))
       (λ κs. (LL.tells R.the-type R′.the-laws, (shr-slice-tells (named 0) (κs .0) T.the-row, tt)))
@@ -293,5 +293,5 @@ records-len-spec 𝓤 H 𝓜 𝓖 𝓡 =
     (tables 𝓤 H 𝓜 𝓡 code.env .C) (tables 𝓤 H 𝓜 𝓡 code.env .Λ) #records-len code.function (code.unfolded 𝓤 H 𝓜 𝓡)
     (meets 𝓤 H (𝓖 .A) (givenOf 𝓤 H 𝓜 𝓖) (𝓜 .mem) (𝓡 .run) (tablesOf 𝓤 H 𝓜 (tables 𝓤 H 𝓜 𝓡 code.env))
     (cited 𝓤 H (Met 𝓤 H (𝓖 .A) begin.ended (begin.clauses 𝓤 H (𝓖 .A) (𝓜 .mem) (𝓡 .run))) 𝓜 𝓡 code.env #begin begin-def.routine code.calls-lent·records·Tally·begin (begin-thm.met 𝓤 H 𝓜 𝓖 𝓡))
-    (cited 𝓤 H (Met 𝓤 H (𝓖 .A) record-at.ended (record-at.clauses 𝓤 H (𝓖 .A) (𝓜 .mem) (𝓡 .run))) 𝓜 𝓡 code.env #record-at record-at-def.routine code.calls-lent·records·record-at (record-at-thm.met 𝓤 H 𝓜 𝓖 𝓡))
+    (cited 𝓤 H (Met 𝓤 H (𝓖 .A) nth-record.ended (nth-record.clauses 𝓤 H (𝓖 .A) (𝓜 .mem) (𝓡 .run))) 𝓜 𝓡 code.env #nth-record nth-record-def.routine code.calls-lent·records·nth-record (nth-record-thm.met 𝓤 H 𝓜 𝓖 𝓡))
     (cited 𝓤 H (Met 𝓤 H (𝓖 .A) with-one.ended (with-one.clauses 𝓤 H (𝓖 .A) (𝓜 .mem) (𝓡 .run))) 𝓜 𝓡 code.env #with with-one-def.routine code.calls-lent·records·Tally·with (with-one-thm.met 𝓤 H 𝓜 𝓖 𝓡)))

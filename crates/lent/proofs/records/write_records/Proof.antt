@@ -1,4 +1,4 @@
--- `write_records` meets its contract: a walk of its MIR, by hand, with a loop in it. A turn calls `record_at` on a copy of the slice, lends the output
+-- `write_records` meets its contract: a walk of its MIR, by hand, with a loop in it. A turn calls `nth_record` on a copy of the slice, lends the output
 -- again to `Record::write` for a lifetime of that call, and has it back. A state of the loop is the index, the offset and the output's list, with what
 -- holds of them (`Laid`). All that the proof knows of the callees is that each meets its contract. Assumes nothing.
 use mathlib.Core.Path.{_≡_, refl, sym, ap, _∙_, subst}
@@ -58,10 +58,10 @@ use Rattle.lent.specs.Records.{recsOf}
 use Rattle.lent.proofs.Lending.{LentAgain, lends-again, comes-back}
 use Rattle.lent.proofs.Values.{gives-usize, usize-typed, record-typed}
 use Rattle.lent.proofs.Walking.{Met, asks, leaves, none-left, vacant, holding}
-use Rattle.lent.proofs.records.record_at as record-at
-use Rattle.lent.proofs.records.record_at.Symbol as record-at-def
-use Rattle.lent.proofs.records.record_at.Symbol.{name as #record-at}
-use Rattle.lent.proofs.records.record_at.Met as record-at-thm
+use Rattle.lent.proofs.records.nth_record as nth-record
+use Rattle.lent.proofs.records.nth_record.Symbol as nth-record-def
+use Rattle.lent.proofs.records.nth_record.Symbol.{name as #nth-record}
+use Rattle.lent.proofs.records.nth_record.Met as nth-record-thm
 use Rattle.lent.proofs.records.write_records.Key.{name as #write-records}
 use Rattle.lent.proofs.records.write_records as write-records
 use Rattle.lent.proofs.records.write_records.Statement as stated
@@ -150,7 +150,7 @@ module _ {M : Type 1} (𝓤 : URA M) (H : Heap 𝓤) (A : Atoms 𝓤) (W : Given
       move ! (2 ∷ []) $ split ! $ move ! (4 ∷ 1 ∷ []) $ join ! $ move ! (1 ∷ 0 ∷ []) $ join ! $ frame ! $
       nothing ! $ move ! (2 ∷ 0 ∷ []) $ fjoin ! $ move ! (1 ∷ 0 ∷ []) $ fjoin ! $ frame ! $ feqI ! (List Val) (vunit ∷ []) (vunit ∷ []) refl $ done !
 
-  module _ (𝓣 : Tables 𝓤 H) (finds : Triple 𝓤 (𝓣 .C #record-at) (Met 𝓤 H A record-at.ended (record-at.clauses 𝓤 H A mem run))) (writes : Triple 𝓤 (𝓣 .C #write) (Met 𝓤 H A write.ended (write.clauses 𝓤 H A mem run))) where
+  module _ (𝓣 : Tables 𝓤 H) (finds : Triple 𝓤 (𝓣 .C #nth-record) (Met 𝓤 H A nth-record.ended (nth-record.clauses 𝓤 H A mem run))) (writes : Triple 𝓤 (𝓣 .C #write) (Met 𝓤 H A write.ended (write.clauses 𝓤 H A mem run))) where
     abbrev C : Calls 𝓤 H
     C = 𝓣 .C
 
@@ -206,10 +206,10 @@ module _ {M : Type 1} (𝓤 : URA M) (H : Heap 𝓤) (A : Atoms 𝓤) (W : Given
           assigns ! (bin ! (load ! (from ! (stop !)) (look ! 14 refl)) (load ! (from ! (stop !)) (look ! 10 refl)) tt) (from ! (stop !)) (init ! 8 refl (tt, tt)) $
           rewrite ! 8 (λ (z : Bool). ‵ (fat fullShare tyBool l₇ 0 (vbool z))) on refl $
           stays ! (load ! (from ! (stop !)) (look ! 8 refl)) $
-          -- `record_at`, on a copy of the slice
+          -- `nth_record`, on a copy of the slice
           use1 W (‵ OwnS ⊛ ‵ OwnS) (shr-slice-copy 𝓤 H A W (named 0) κ T.the-row .twice s (v ∷ [])) $ split ! $
           nothing ! $ gives-usize ! i i-fits $ fjoin ! $ move ! (1 ∷ 0 ∷ []) $ fjoin ! $ move ! (0 ∷ 3 ∷ []) $
-          asks ! fm record-at.ended (record-at.clauses 𝓤 H A mem run) finds (((κ, tt), (q, tt), tt, (s, (i, tt)), (v ∷ [], (vint w64 i ∷ [], tt))), tt) (factI 𝓤 _ (emp 𝓤) less)
+          asks ! fm nth-record.ended (nth-record.clauses 𝓤 H A mem run) finds (((κ, tt), (q, tt), tt, (s, (i, tt)), (v ∷ [], (vint w64 i ∷ [], tt))), tt) (factI 𝓤 _ (emp 𝓤) less)
           (and-then ! (load ! (from ! (stop !)) (look ! 20 refl)) (and-then ! (load ! (from ! (stop !)) (look ! 14 refl)) (no-more !))) (λ r _. r ≡ getD ys i noRecord) (λ r _. id⊢ 𝓤 _) (λ u r _ e is.
           land ! (from ! (stop !)) (init ! 14 refl (record-typed W r u is)) $ move ! (2 ∷ []) $ drop ! $
           -- [the record; the token; what records owns; what out owns; its token; _9 5; _8 7; _7 9; _6 11; _5 13; _4 15; _3 17; _2 19; _1 21; _0 23]
@@ -280,7 +280,7 @@ module _ {M : Type 1} (𝓤 : URA M) (H : Heap 𝓤) (A : Atoms 𝓤) (W : Given
         move ! (2 ∷ 1 ∷ []) $ join ! $ move ! (3 ∷ []) $ drop ! $ move ! (3 ∷ 2 ∷ []) $
         looped l₀ l₁ l₂ l₃ l₄ l₅ l₆ l₇ l₈ l₉))))))))))
 
-module _ {M : Type 1} (𝓤 : URA M) (H : Heap 𝓤) (A : Atoms 𝓤) (W : Given 𝓤 H A) (mem : Memory → SProp 𝓤) (run : Routine → Fun 𝓤) (𝓣 : Tables 𝓤 H) (finds : Triple 𝓤 (𝓣 .C #record-at) (Met 𝓤 H A record-at.ended (record-at.clauses 𝓤 H A mem run)))
+module _ {M : Type 1} (𝓤 : URA M) (H : Heap 𝓤) (A : Atoms 𝓤) (W : Given 𝓤 H A) (mem : Memory → SProp 𝓤) (run : Routine → Fun 𝓤) (𝓣 : Tables 𝓤 H) (finds : Triple 𝓤 (𝓣 .C #nth-record) (Met 𝓤 H A nth-record.ended (nth-record.clauses 𝓤 H A mem run)))
     (writes : Triple 𝓤 (𝓣 .C #write) (Met 𝓤 H A write.ended (write.clauses 𝓤 H A mem run))) where
   walks : Walks 𝓤 H A write-records.ended stayed (WpFn 𝓤 H (𝓣 .C) (𝓣 .Λ) code.function) (write-records.clauses 𝓤 H A mem run)
   walks = walked 𝓤 H A write-records.ended stayed (write-records.clauses 𝓤 H A mem run) (WpFn 𝓤 H (𝓣 .C) (𝓣 .Λ) code.function) (λ κs. (slice-vals, (slice-vals, tt)))
@@ -298,5 +298,5 @@ write-records-spec 𝓤 H 𝓜 𝓖 𝓡 =
     entered 𝓤 H (tripleOf 𝓤 H (𝓖 .A) write-records.signature (write-records.spec 𝓤 H (𝓖 .A) (𝓜 .mem) (𝓡 .run)))
     (tables 𝓤 H 𝓜 𝓡 code.env .C) (tables 𝓤 H 𝓜 𝓡 code.env .Λ) #write-records code.function (code.unfolded 𝓤 H 𝓜 𝓡)
     (meets 𝓤 H (𝓖 .A) (givenOf 𝓤 H 𝓜 𝓖) (𝓜 .mem) (𝓡 .run) (tablesOf 𝓤 H 𝓜 (tables 𝓤 H 𝓜 𝓡 code.env))
-    (cited 𝓤 H (Met 𝓤 H (𝓖 .A) record-at.ended (record-at.clauses 𝓤 H (𝓖 .A) (𝓜 .mem) (𝓡 .run))) 𝓜 𝓡 code.env #record-at record-at-def.routine code.calls-lent·records·record-at (record-at-thm.met 𝓤 H 𝓜 𝓖 𝓡))
+    (cited 𝓤 H (Met 𝓤 H (𝓖 .A) nth-record.ended (nth-record.clauses 𝓤 H (𝓖 .A) (𝓜 .mem) (𝓡 .run))) 𝓜 𝓡 code.env #nth-record nth-record-def.routine code.calls-lent·records·nth-record (nth-record-thm.met 𝓤 H 𝓜 𝓖 𝓡))
     (cited 𝓤 H (Met 𝓤 H (𝓖 .A) write.ended (write.clauses 𝓤 H (𝓖 .A) (𝓜 .mem) (𝓡 .run))) 𝓜 𝓡 code.env #write write-def.routine code.calls-build·record·Record·write (write-thm.met 𝓤 H 𝓜 𝓖 𝓡)))

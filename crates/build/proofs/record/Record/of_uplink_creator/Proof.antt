@@ -2,7 +2,7 @@
 use Prim.Native.Nat.{ℕ, _≤_}
 use mathlib.Core.Path.{_≡_, ap, _∙_}
 use native.Mathlib.Omega.{arith}
-use Rattle.build.specs.Records.{ofImage}
+use Rattle.build.specs.Records.{frameless, ofImage}
 use borrow.Author.Needs.{needs}
 use Rattle.build.proofs.record.Record.of_uplink_creator.Statement.{statement}
 use Rattle.build.proofs.record.Record.of_uplink_creator.Tie as tie
@@ -14,7 +14,7 @@ of-image-requires : tie.Need-of-image-requires
 of-image-requires c κs = omega (arith, ap (λ i. i .0) (c .build .ensures))
 
 returns : tie.Need-returns
-returns c = c .of-image .ensures ∙ ap ofImage (c .before .build .ensures)
+returns c = c .of-image .ensures ∙ ap (λ image. frameless (ofImage image)) (c .before .build .ensures)
 
 pub of-uplink-creator-spec : {M : Type 1} → statement M
 of-uplink-creator-spec = tie.close (tie.spec build-requires of-image-requires returns)

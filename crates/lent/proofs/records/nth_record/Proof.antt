@@ -1,4 +1,4 @@
--- `record_at` meets its contract: a walk of its MIR, by hand. The place of `records[i]` is computed, the slice is looked into, and element i is taken
+-- `nth_record` meets its contract: a walk of its MIR, by hand. The place of `records[i]` is computed, the slice is looked into, and element i is taken
 -- out of the row, copied, and put back. The code has no check of the bound: it is the contract's to ask. Assumes nothing.
 use mathlib.Core.Path.{refl, sym}
 use Prim.Native.Nat.{ℕ, _<_, _^_}
@@ -41,12 +41,12 @@ use Rattle.build.proofs.record.Record as T
 use Rattle.build.proofs.record.Record.Laws as T′
 use Rattle.lent.proofs.RecordSize.{bytes, offset-fits}
 use Rattle.lent.proofs.Walking.{leaves, none-left, holding}
-use Rattle.lent.proofs.records.record_at.Key.{name as #record-at}
-use Rattle.lent.proofs.records.record_at as record-at
-use Rattle.lent.proofs.records.record_at.Statement as stated
-use Rattle.lent.proofs.records.record_at.Code as code
+use Rattle.lent.proofs.records.nth_record.Key.{name as #nth-record}
+use Rattle.lent.proofs.records.nth_record as nth-record
+use Rattle.lent.proofs.records.nth_record.Statement as stated
+use Rattle.lent.proofs.records.nth_record.Code as code
 
-abbrev stayed : Stays (record-at.ended .signature .params) (record-at.ended .kept)
+abbrev stayed : Stays (nth-record.ended .signature .params) (nth-record.ended .kept)
 stayed = (stay-none-slice (0 ∷ []) tt (plain (λ _. T.the-row)) yes, (stay-none (λ _. usize) yes, tt))
 
 abbrev vals : Record → List Val
@@ -65,14 +65,14 @@ module _ {M : Type 1} (𝓤 : URA M) (H : Heap 𝓤) (A : Atoms 𝓤) (W : Given
   abbrev v : Val
   v = sliceVal (b, o) (length ys)
 
-  abbrev at : Vals record-at.signature (κ, tt)
+  abbrev at : Vals nth-record.signature (κ, tt)
   at = (v ∷ [], (vint w64 i ∷ [], tt))
 
-  abbrev bound : walkOf 𝓤 H A record-at.ended stayed (record-at.clauses 𝓤 H A mem run) .Ghost
+  abbrev bound : walkOf 𝓤 H A nth-record.ended stayed (nth-record.clauses 𝓤 H A mem run) .Ghost
   bound = (((κ, tt), (q, tt), tt, (s, (i, tt)), at), tt)
 
   abbrev Post : Val → SProp 𝓤
-  Post = walkOf 𝓤 H A record-at.ended stayed (record-at.clauses 𝓤 H A mem run) .post bound
+  Post = walkOf 𝓤 H A nth-record.ended stayed (nth-record.clauses 𝓤 H A mem run) .post bound
 
   abbrev Own : Fml
   Own = ShrSlice (named 0) κ T.the-row .own s (v ∷ [])
@@ -80,13 +80,13 @@ module _ {M : Type 1} (𝓤 : URA M) (H : Heap 𝓤) (A : Atoms 𝓤) (W : Given
   exits : Is T.the-row elem (mach elem ∷ []) → i < 2 ^ 64 → ent 𝓤 (⋆ 𝓤 H A (‵ (flft κ q) ∷ ‵ Own ∷ [])) (Post (mach elem))
   exits is fits =
       qed W (‵ (flft κ q) ∷ ‵ Own ∷ []) ∵
-      suffices ! _ (ends-at 𝓤 H A record-at.ended stayed (record-at.clauses 𝓤 H A mem run) W bound (mach elem) elem (tt, (tt, tt)) (tt, (tt, tt))) $ says ! refl $
+      suffices ! _ (ends-at 𝓤 H A nth-record.ended stayed (nth-record.clauses 𝓤 H A mem run) W bound (mach elem) elem (tt, (tt, tt)) (tt, (tt, tt))) $ says ! refl $
       nothing ! $ move ! (1 ∷ 0 ∷ []) $ join ! $ frame ! $
       nothing ! $ owned ! usize (Is usize) (uint-makes 𝓤 H A W w64) i _ (refl, fits) $ fjoin ! $ move ! (1 ∷ 0 ∷ []) $ fjoin ! $
       frame ! $ owned ! T.the-row (Is T.the-row) ((LL.makes T.the-type T′.the-plain) 𝓤 H A) elem _ is $ done !
 
   module _ (C : Calls 𝓤 H) (Λ : Loops 𝓤 H) where
-    walk : Room T.the-row (length ys) → i < 2 ^ 64 → i < length ys → ent 𝓤 (onEntry 𝓤 H A record-at.signature (κ, tt) (q, tt) (s, (i, tt)) at) (WpFn 𝓤 H C Λ code.function (v ∷ vint w64 i ∷ []) Post)
+    walk : Room T.the-row (length ys) → i < 2 ^ 64 → i < length ys → ent 𝓤 (onEntry 𝓤 H A nth-record.signature (κ, tt) (q, tt) (s, (i, tt)) at) (WpFn 𝓤 H C Λ code.function (v ∷ vint w64 i ∷ []) Post)
     walk room fits less =
         qed W ((‵ (flft κ q) ⊛ ‵ ftrue) ∷ ‵ (owns (ShrSlice (named 0) κ T.the-row ∷ usize ∷ []) (s, (i, tt)) at) ∷ []) ∵ enter ! C Λ code.function (v ∷ vint w64 i ∷ []) _ $
         alloc1 ! (λ l₀. alloc1 ! (λ l₁. alloc1 ! (λ l₂. alloc1 ! (λ l₃. alloc1 ! (λ l₄. alloc1 ! (λ l₅. alloc0 ! $ params1 ! $
@@ -106,21 +106,21 @@ module _ {M : Type 1} (𝓤 : URA M) (H : Heap 𝓤) (A : Atoms 𝓤) (W : Given
         returns ! (look ! 15 refl) $ leaves ! 5 (holding (holding (holding (holding (holding (holding none-left)))))) $ keep ! (0 ∷ 3 ∷ []) $ by ! (exits is fits)))))))))
 
 module _ {M : Type 1} (𝓤 : URA M) (H : Heap 𝓤) (A : Atoms 𝓤) (W : Given 𝓤 H A) (mem : Memory → SProp 𝓤) (run : Routine → Fun 𝓤) where
-  walks : (C : Calls 𝓤 H) (Λ : Loops 𝓤 H) → Walks 𝓤 H A record-at.ended stayed (WpFn 𝓤 H C Λ code.function) (record-at.clauses 𝓤 H A mem run)
-  walks C Λ = walked 𝓤 H A record-at.ended stayed (record-at.clauses 𝓤 H A mem run) (WpFn 𝓤 H C Λ code.function) (λ κs. (slice-vals, (uint-vals w64, tt))) (λ κs. (shr-slice-tells (named 0) (κs .0) T.the-row, (uint-tells w64, tt)))
+  walks : (C : Calls 𝓤 H) (Λ : Loops 𝓤 H) → Walks 𝓤 H A nth-record.ended stayed (WpFn 𝓤 H C Λ code.function) (nth-record.clauses 𝓤 H A mem run)
+  walks C Λ = walked 𝓤 H A nth-record.ended stayed (nth-record.clauses 𝓤 H A mem run) (WpFn 𝓤 H C Λ code.function) (λ κs. (slice-vals, (uint-vals w64, tt))) (λ κs. (shr-slice-tells (named 0) (κs .0) T.the-row, (uint-tells w64, tt)))
       (λ κs qs bounds a g are. needs 𝓤 _ _
       (walk 𝓤 H A W mem run (κs .0) (qs .0) (a .0 .ptr .0) (a .0 .ptr .1) (a .0 .name) (a .0 .now) (a .1 .0) C Λ (are .0 .0 .1) (are .1 .0 .1)))
 
 meets : {M : Type 1} (𝓤 : URA M) (H : Heap 𝓤) (A : Atoms 𝓤) → Given 𝓤 H A → (mem : Memory → SProp 𝓤) (run : Routine → Fun 𝓤) (𝓣 : Tables 𝓤 H)
-    → Meets 𝓤 H A record-at.signature (WpFn 𝓤 H (𝓣 .C) (𝓣 .Λ) code.function) (record-at.spec 𝓤 H A mem run)
+    → Meets 𝓤 H A nth-record.signature (WpFn 𝓤 H (𝓣 .C) (𝓣 .Λ) code.function) (nth-record.spec 𝓤 H A mem run)
 meets 𝓤 H A W mem run 𝓣 =
-    walk-meets 𝓤 H A record-at.ended stayed W
+    walk-meets 𝓤 H A nth-record.ended stayed W
     (goes-none-slice 𝓤 H A W 1 (0 ∷ []) tt (plain (λ _. T.the-row)) yes, (goes-none 𝓤 H A W 1 (λ _. usize) yes (λ κs x f. refl), tt))
-    (record-at.clauses 𝓤 H A mem run) (WpFn 𝓤 H (𝓣 .C) (𝓣 .Λ) code.function) (WpFn-mono 𝓤 H (W .laws) 𝓣 code.function) (walks 𝓤 H A W mem run (𝓣 .C) (𝓣 .Λ))
+    (nth-record.clauses 𝓤 H A mem run) (WpFn 𝓤 H (𝓣 .C) (𝓣 .Λ) code.function) (WpFn-mono 𝓤 H (W .laws) 𝓣 code.function) (walks 𝓤 H A W mem run (𝓣 .C) (𝓣 .Λ))
 
-pub record-at-spec : {M : Type 1} → stated.statement M
+pub nth-record-spec : {M : Type 1} → stated.statement M
 unfolding code.routine tablesOf
-record-at-spec 𝓤 H 𝓜 𝓖 𝓡 =
-    entered 𝓤 H (tripleOf 𝓤 H (𝓖 .A) record-at.signature (record-at.spec 𝓤 H (𝓖 .A) (𝓜 .mem) (𝓡 .run)))
-    (tables 𝓤 H 𝓜 𝓡 code.env .C) (tables 𝓤 H 𝓜 𝓡 code.env .Λ) #record-at code.function (code.unfolded 𝓤 H 𝓜 𝓡)
+nth-record-spec 𝓤 H 𝓜 𝓖 𝓡 =
+    entered 𝓤 H (tripleOf 𝓤 H (𝓖 .A) nth-record.signature (nth-record.spec 𝓤 H (𝓖 .A) (𝓜 .mem) (𝓡 .run)))
+    (tables 𝓤 H 𝓜 𝓡 code.env .C) (tables 𝓤 H 𝓜 𝓡 code.env .Λ) #nth-record code.function (code.unfolded 𝓤 H 𝓜 𝓡)
     (meets 𝓤 H (𝓖 .A) (givenOf 𝓤 H 𝓜 𝓖) (𝓜 .mem) (𝓡 .run) (tablesOf 𝓤 H 𝓜 (tables 𝓤 H 𝓜 𝓡 code.env)))
