@@ -3,10 +3,11 @@
 use mathlib.Core.Path.{sym, ap, ap₂, _∙_}
 use denote.Ref.{now}
 use Rattle.walk.proofs.Told.{step-tells}
-use Rattle.build.proofs.Told.{build-tells}
+use Rattle.build.proofs.Told.{build-tells, handed-tells}
 use Rattle.lent.proofs.Fixing.{Fixed, FixedWith, fixes}
 use Rattle.lent.proofs.iterator.MacCommandIterator.new.{ended as new-ended, clauses as new-clauses}
 use Rattle.lent.proofs.iterator.MacCommandIterator.next.{ended as next-ended, clauses as next-clauses}
+use Rattle.lent.proofs.iterator.MacCommandIterator.next_record.{ended as next-record-ended, clauses as next-record-clauses}
 use Rattle.lent.proofs.iterator.MacCommandIterator.data.{ended as stream-ended, clauses as stream-clauses}
 use Rattle.lent.proofs.iterator.MacCommandIterator.index.{ended as index-ended, clauses as index-clauses}
 use Rattle.lent.proofs.iterator.parse_uplink_mac_commands.{ended as parse-uplink-ended, clauses as parse-uplink-clauses}
@@ -21,6 +22,9 @@ new-one _ 𝓤 _ _ _ _ _ _ _ _ _ _ _ = fixes 𝓤 (λ p q. p ∙ sym q)
 
 next-one : FixedWith next-ended (λ M 𝓤. next-clauses 𝓤) (λ κs e. now (e .0))
 next-one _ 𝓤 _ _ _ _ _ _ _ _ _ _ _ = fixes 𝓤 (λ p q. ap₂ (λ r o. (r, o)) (step-tells (ap (λ x. x .0) (p ∙ sym q))) (ap (λ x. x .1) (p ∙ sym q)))
+
+next-record-one : FixedWith next-record-ended (λ M 𝓤. next-record-clauses 𝓤) (λ κs e. now (e .0))
+next-record-one _ 𝓤 _ _ _ _ _ _ _ _ _ _ _ = fixes 𝓤 (λ p q. ap₂ (λ r o. (r, o)) (handed-tells (ap (λ x. x .0) (p ∙ sym q))) (ap (λ x. x .1) (p ∙ sym q)))
 
 stream-one : Fixed stream-ended (λ M 𝓤. stream-clauses 𝓤)
 stream-one _ 𝓤 _ _ _ _ _ _ _ _ _ _ _ = fixes 𝓤 (λ p q. p ∙ sym q)

@@ -23,17 +23,16 @@ use types.Part.{whole, sub, look-in, store-in}
 use types.Run.{look, init, store, stop, hop, fld, from, load, of-opd, and-then, no-more, assigns, land, returns, enter, alloc1, alloc0, params1, pass1, pass0}
 use types.SemTy.{Body}
 use sound.WpLaws.{FmC, fmOf, WpFn-mono}
-use denote.RattleType.{RattleType, owns}
+use denote.RattleType.{owns}
 use denote.Laws.{Is, shows}
 use denote.Memory.{mem, cellAt}
 use denote.Builtin.{u8}
-use denote.Ref.{RefT, NamedLft, MutRef, ptr-vals, mut-tells}
-use denote.Signature.{Slot, plain, namedLft}
+use denote.Ref.{RefT, MutRef, ptr-vals, mut-tells}
 use denote.Slice.{sliceVal, shr-slice-lawful}
 use denote.Steps.{only, opens, closes, peeks, nothing}
 use denote.Struct.Declared.{Declared}
 use denote.Struct.Laws as LL
-use denote.Struct.Rest.{all-own, ownAt, rest, own-open, own-out, own-put}
+use denote.Struct.Rest.{all-own, ownAt, rest, own-open, own-out}
 use denote.Struct.Steps.{spelt}
 use denote.Struct.Values.{Values}
 use denote.Triple.Statement.{Triple}
@@ -54,7 +53,7 @@ use Rattle.lent.specs.Iterator.{movedTo, stepOf, atIndex, nexted}
 use Rattle.lent.specs.declared.iterator.MacCommandIterator.{MacCommandIterator}
 use Rattle.lent.proofs.Values.{rulesVal, gives-usize, gives-rules, gives-step, usize-typed, rules-typed, step-typed}
 use Rattle.lent.proofs.Walking.{Met, asks, leaves, none-left, holding}
-use Rattle.lent.proofs.iterator.Holding.{itVal}
+use Rattle.lent.proofs.iterator.Holding.{itVal, α, It, referent, moves}
 use Rattle.lent.proofs.iterator.MacCommandIterator as T
 use Rattle.lent.proofs.iterator.MacCommandIterator.Laws as T′
 use Rattle.lent.proofs.iterator.behind as behind
@@ -65,17 +64,6 @@ use Rattle.lent.proofs.iterator.MacCommandIterator.next.Key.{name as #n
 use Rattle.lent.proofs.iterator.MacCommandIterator.next as next
 use Rattle.lent.proofs.iterator.MacCommandIterator.next.Statement as stated
 use Rattle.lent.proofs.iterator.MacCommandIterator.next.Code as code
-
--- 'a, and the iterator's type at it
-abbrev α : Lft → NamedLft
-α κ′ = record { mir = named 1; lft = κ′ }
-
-abbrev It : Lft → RattleType
-It κ′ = T.the-row (α κ′)
-
--- the iterator, as the referent's place in the signature
-abbrev referent : Slot 2
-referent = plain (λ κs. T.the-row (namedLft 2 1 tt κs))
 
 abbrev stayed : Stays (next.ended .signature .params) (next.ended .kept)
 stayed = (stay-ref (0 ∷ []) tt referent, tt)
@@ -114,10 +102,6 @@ module _ {M : Type 1} (𝓤 : URA M) (H : Heap 𝓤) (A : Atoms 𝓤) (W : Given
 
   abbrev Own : Fml
   Own = It κ′ .own d (mach d ∷ [])
-
-  -- what the iterator owns at the new index
-  moves : (m : ℕ) → m < 2 ^ 64 → ent 𝓤 (sem 𝓤 H A Own) (sem 𝓤 H A (It κ′ .own (atIndex d m) (mach (atIndex d m) ∷ [])))
-  moves m fits = qed W (‵ Own ∷ []) ∵ gives-usize ! m fits $ move ! (1 ∷ 0 ∷ []) $ by ! (own-put 𝓤 H A W D L 1 fields m (mach d))
 
   exits : (r : Step) (z : Val) (m : ℕ) → Is S.the-row r (z ∷ []) → toldStep r ≡ stepOf d → m ≡ movedTo (toldStep r) (d .index)
       → ent 𝓤 (⋆ 𝓤 H A (‵ (fobs γ (It κ′ .coded .code (atIndex d m))) ∷ ‵ (fbor κ (Body (mem (It κ′)) b o γ)) ∷ ‵ (flft κ q) ∷ (‵ (flft κ′ q′) ⊛ ‵ ftrue) ∷ [])) (Post z)
@@ -163,7 +147,7 @@ module _ {M : Type 1} (𝓤 : URA M) (H : Heap 𝓤) (A : Atoms 𝓤) (W : Given
         assigns ! (of-opd ! (load ! (from ! (stop !)) (look ! 17 refl))) (from ! (hop ! (look ! 21 refl) (fld ! refl (stop !)))) (store-in ! 6 (sub ! 1 refl (whole !)) (tt, record { fits = is′ .1 })) $
         assigns ! (of-opd ! (load ! (from ! (stop !)) (look ! 19 refl))) (from ! (stop !)) (init ! 23 refl (step-typed W r z is)) $
         -- the borrow is closed at the iterator with the new index
-        move ! (5 ∷ []) $ use1 W (‵ (It κ′ .own (atIndex d m) (mach (atIndex d m) ∷ []))) (moves m (is′ .1)) $
+        move ! (5 ∷ []) $ use1 W (‵ (It κ′ .own (atIndex d m) (mach (atIndex d m) ∷ []))) (moves 𝓤 H A W κ′ d m (is′ .1)) $
         move ! (6 ∷ []) $ use1 W (‵ (cellAt fullShare (It κ′ .mir) (mach (atIndex d m) ∷ []) b o)) (W .laws .at-raw fullShare (T′.mir erased) b o (mach (atIndex d m))) $
         move ! (0 ∷ 1 ∷ 7 ∷ 8 ∷ 9 ∷ []) $ closes ! tt (It κ′) (atIndex d m) (mach (atIndex d m) ∷ []) b o $
         -- [obs; the borrow; the token; the number; true; true; 'a's token; true; true; _6 9; …; _0 21]
