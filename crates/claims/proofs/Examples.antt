@@ -9,6 +9,7 @@ use Rattle.bits.specs.Every.{Every}
 use Rattle.table.specs.Answers.{given, refused, accepted}
 use Rattle.table.specs.Table.{lengthOf, named}
 use Rattle.table.specs.declared.rules.Direction.the-variants.{Up}
+use Rattle.table.specs.declared.rules.Rules.{Rules}
 use Rattle.fields.specs.Frequency.{bytesOf, hertz}
 use Rattle.fields.specs.Lists.{exactly, tabulate}
 use Rattle.fields.specs.Mask.{enabledOf, setChannel}
@@ -62,7 +63,7 @@ use Rattle.claims.specs.Origins.{HandsOutRecords}
 use Rattle.claims.proofs.Building.{slots-defined, structs-defined}
 use Rattle.claims.proofs.Handing as Handing
 use Rattle.claims.proofs.Keeping.{both}
-use Rattle.claims.proofs.Origins.{records-of-the-walk}
+use Rattle.claims.proofs.Origins.{steps-hand-out, iterator-hands-out}
 
 abbrev rule : Answering → List ℕ → Bool
 rule LinkADRAns = LinkADRAns·accepts
@@ -108,14 +109,13 @@ of-functions (reads d bytes cmds ending) e = λ stream same.
     subst (λ (w : Walk). ReadAs (record { direction = d }) stream (w .cmds) (w .ending)) (ap (walkOf (lengthOf (record { direction = d }))) same ∙ e)
     (Handing.reads (record { direction = d }) stream)
 of-functions (hands d frame bytes records ending) e = λ stream same.
-    let rules = record { direction = d } in
-    let w = records-of-the-walk rules stream in
+    let rules : Rules = record { direction = d } in
     let L = lengthOf rules in
     record {
       cmds = walkOf L (now stream) .cmds;
       same = ap (recordsOf L frame) same ∙ e .0;
-      by-offsets = subst (HandsOutRecords (recordSteps rules frame stream) frame (walkOf L (now stream) .cmds)) (ap (λ (s : List ℕ). walkOf L s .ending) same ∙ e .1) (w .by-offsets frame);
-      by-iterator = subst (HandsOutRecords (recordIterator rules frame stream) frame (walkOf L (now stream) .cmds)) (ap (λ (s : List ℕ). walkOf L s .ending) same ∙ e .1) (w .by-iterator frame);
+      by-offsets = subst (HandsOutRecords (recordSteps rules frame stream) frame (walkOf L (now stream) .cmds)) (ap (λ (s : List ℕ). walkOf L s .ending) same ∙ e .1) (steps-hand-out rules stream frame);
+      by-iterator = subst (HandsOutRecords (recordIterator rules frame stream) frame (walkOf L (now stream) .cmds)) (ap (λ (s : List ℕ). walkOf L s .ending) same ∙ e .1) (iterator-hands-out rules stream frame);
     }
 of-functions (frequency bytes hz) e = record { so = λ s same a g. in-hertz bytes hz (e .1) a (g .1 .1 ∙ ap (exactly 3) same ∙ e .0) }
 of-functions (margin-reads b m) e = record { so = λ battery r g. g .1 .1 ∙ e battery }

@@ -132,7 +132,7 @@ module _ (L : Rule) (s : List ℕ) (frame : ℕ) (F : RecordFront) (f : Faithful
       let x = f .asks st st' (a, r) (p .sound) q in
       rests a (F .offset st) (p .before) (p .coming) (p .parted) (p .handed-out) (p .stands) (x .2) (x .1) n (ap (λ y. y .0) (answered p (a, r) st' q))
 
-  pub hands-out-records : HandsOutRecords F frame (walkOf L s .cmds) (walkOf L s .ending)
+  hands-out-records : HandsOutRecords F frame (walkOf L s .cmds) (walkOf L s .ending)
   hands-out-records st out c =
       let p = position c in
       record {
@@ -144,13 +144,20 @@ module _ (L : Rule) (s : List ℕ) (frame : ℕ) (F : RecordFront) (f : Faithful
         answered = answered p;
       }
 
-pub records-of-the-walk : (rules : Rules) (stream : RefT (List ℕ)) → RecordsOfTheWalk rules stream
+module _ (rules : Rules) (stream : RefT (List ℕ)) (frame : ℕ) where
+  pub steps-hand-out : HandsOutRecords (recordSteps rules frame stream) frame (walkOf (lengthOf rules) (now stream) .cmds) (walkOf (lengthOf rules) (now stream) .ending)
+  steps-hand-out = hands-out-records (lengthOf rules) (now stream) frame (recordSteps rules frame stream) (records-faithful rules frame stream)
+
+  pub iterator-hands-out : HandsOutRecords (recordIterator rules frame stream) frame (walkOf (lengthOf rules) (now stream) .cmds) (walkOf (lengthOf rules) (now stream) .ending)
+  iterator-hands-out = hands-out-records (lengthOf rules) (now stream) frame (recordIterator rules frame stream) (record-iterator-faithful rules frame stream)
+
+records-of-the-walk : (rules : Rules) (stream : RefT (List ℕ)) → RecordsOfTheWalk rules stream
 records-of-the-walk rules stream = record {
   cmds = walkOf (lengthOf rules) (now stream) .cmds;
   ending = walkOf (lengthOf rules) (now stream) .ending;
   read = reads rules stream;
-  by-offsets = λ frame. hands-out-records (lengthOf rules) (now stream) frame (recordSteps rules frame stream) (records-faithful rules frame stream);
-  by-iterator = λ frame. hands-out-records (lengthOf rules) (now stream) frame (recordIterator rules frame stream) (record-iterator-faithful rules frame stream);
+  by-offsets = steps-hand-out rules stream;
+  by-iterator = iterator-hands-out rules stream;
 }
 
 -- ---- in a build

@@ -1,6 +1,6 @@
 -- The demands (RULES: D1 to D3), each as one statement, and what holds of masks, command types, the seconds, where a command came from, the chooser
--- and the listing. They speak of functions: each holds of every outcome that the contracts of the public functions admit, so a body that is changed together with its contract
--- can't pass unless the sentence still holds of it.
+-- and the listing. They speak of functions: each holds of every outcome that the contracts of the public functions admit, so a body that is changed
+-- together with its contract can't pass unless the sentence still holds of it.
 use Prim.Native.Nat.{ℕ}
 use mathlib.Core.List.{List}
 use denote.Ref.{RefT}
