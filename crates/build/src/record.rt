@@ -69,8 +69,8 @@ impl Record {
     fn counted(self) -> usize
         ensures { λ r. ⌜ r ≡ length (take (self .len) (self .payload)) ⌝ }
     {
-        let len = self.len;
-        if len < 5 { len } else { 5 }
+        let n = self.len;
+        if n < 5 { n } else { 5 }
     }
 
     // Writes CID and payload at an offset, and answers the offset behind them. Where there is no room for them, nothing is written,
