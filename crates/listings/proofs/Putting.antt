@@ -35,8 +35,8 @@ module _ (frame : ℕ) (out : List ℕ) (to : ℕ) where
       stamped : Puts out to (stamp frame) n1 o1
       stamped = puts-of stamp-room e1
 
-      pub line-room : n1 + length (line l) ≤ length o1
-      line-room = let b = stamped .behind in omega (arith, puts-length stamped, frame-long frame l)
+      pub line-room : (to ≤ n1) × (n1 + length (line l) ≤ length o1)
+      line-room = let b = stamped .behind in (omega arith, omega (arith, puts-length stamped, frame-long frame l))
 
       pub line-put : {n2 : ℕ} {o2 : List ℕ} → Left n2 o2 o1 n1 (line l) → Left n2 o2 out to (line (inFrame frame l))
       line-put {n2} {o2} e2 =

@@ -3,6 +3,7 @@ use Prim.Native.Nat.{ℕ, _+_, _≤_}
 use mathlib.Core.List.{List}
 use mathlib.Core.Path.{_≡_, sym, ap, _∙_, subst}
 use borrow.Author.Needs.{needs}
+use native.Mathlib.Omega.{arith}
 use lib.ListN.{length}
 use Rattle.bits.specs.Memory.{writtenAt}
 use Rattle.bits.proofs.Memory.{Left}
@@ -27,9 +28,9 @@ put-stamp-requires c κs =
 
 -- behind the stamp there is room for a step's line, and what is written there, where the step is known
 module _ (i : tie.Start) {n : ℕ} {o : List ℕ} (p : Left n o (i .args .out .now) (i .args .to) (stamp (i .args .frame))) where
-  known-room : {f : Step} → i .args .found ≡ f → n + length (line (lineOf i f)) ≤ length o
+  known-room : {f : Step} → i .args .found ≡ f → (i .args .to ≤ n) × (n + length (line (lineOf i f)) ≤ length o)
   known-room e =
-      subst (λ (f : Step). n + length (line (lineOf i f)) ≤ length o) e
+      subst (λ (f : Step). (i .args .to ≤ n) × (n + length (line (lineOf i f)) ≤ length o)) e
       (line-room (i .args .frame) (i .args .out .now) (i .args .to) (lineOf i (i .args .found)) (i .pre .1) p)
 
   known-put : {f : Step} {m : ℕ} {q : List ℕ} → i .args .found ≡ f → Left m q o n (line (lineOf i f))
@@ -43,25 +44,26 @@ put-command-requires c κs =
     let k = c .before .before in
     let s = k .before .before .before .before in
     let i = s .before .before .before .before in
-    (stands (i .args .rules) (i .args .stream .now) (sym (i .pre .0) ∙ ap toldStep (k .found .given .1)), known-room i (s .put-stamp .ensures) (k .found .given .1))
+    (stands (i .args .rules) (i .args .stream .now) (sym (i .pre .0) ∙ ap toldStep (k .found .given .1)), known-room i (s .put-stamp .ensures) (k .found .given .1) .1)
 
 put-end-requires : tie.Need-put-end-requires
 put-end-requires c κs =
     let k = c .before in
     let s = k .before .before .before .before in
-    known-room (s .before .before .before .before) (s .put-stamp .ensures) (k .enum-told .given .1)
+    let r = known-room (s .before .before .before .before) (s .put-stamp .ensures) (k .enum-told .given .1) in
+    omega (arith, r .0, r .1)
 
 put-stop-requires : tie.Need-put-stop-requires
 put-stop-requires c κs =
     let k = c .before .before .before in
     let s = k .before .before .before .before in
-    rw (c .number .ensures) (known-room (s .before .before .before .before) (s .put-stamp .ensures) (k .found2 .given .1))
+    rw (c .number .ensures) (known-room (s .before .before .before .before) (s .put-stamp .ensures) (k .found2 .given .1) .1)
 
 put-end-requires-2 : tie.Need-put-end-requires-2
 put-end-requires-2 c κs =
     let k = c .before in
     let s = k .before .before .before .before in
-    known-room (s .before .before .before .before) (s .put-stamp .ensures) (k .enum-told2 .given .1)
+    known-room (s .before .before .before .before) (s .put-stamp .ensures) (k .enum-told2 .given .1) .1
 
 returns : tie.Need-returns
 returns c =
