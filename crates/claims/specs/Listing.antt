@@ -34,9 +34,9 @@ pub record Sizes (rules : Rules) (frame : ℕ) (stream : RefT (List ℕ)) (a : A
   pub admitted : Gives listing-len.Post (rules, (frame, (stream, tt))) answer
   pub told : toldListing answer ≡ a
 
--- the text of a stream in a frame, whatever way it came about: where there is room it stands at the front, its length is the answer, and the bytes behind it
--- stay (L7); else the answer is refusal 4, and memory is as it was (L8). Asked alone, the length is the same, and refusal 4 where no memory
--- could hold the text (L9)
+-- the text of a stream in a frame, whatever way it came about: where there is room it stands at the front, its length is the answer, and the bytes
+-- behind it stay (L7); else the answer is refusal 4, and memory is as it was (L8). Asked alone, the length is the same, and refusal 4 where no
+-- memory could hold the text (L9)
 pub record TextIs (rules : Rules) (frame : ℕ) (stream : RefT (List ℕ)) (t : List ℕ) : Type 0 where
   pub room : (out : RefT (List ℕ)) (a : Answer ℕ) (after : List ℕ) → Lists rules frame stream out a after → length t ≤ length (now out)
       → (a ≡ given (length t)) × (after ≡ t ++ drop (length t) (now out))

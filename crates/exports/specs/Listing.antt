@@ -16,7 +16,8 @@ number (refused k) = k
 abbrev pub withNumber : Answer ℕ × List ℕ → ℕ × List ℕ
 withNumber a = (number (a .0), a .1)
 
--- two texts down, each in a frame, with the same number have the same answer, written or only measured: the refusal's number is 4, and no text is so short
+-- two texts down, each in a frame, with the same number have the same answer, written or only measured: the refusal's number is 4, and no text is so
+-- short
 pub record ListingTellsApart : Type 0 where
   pub written : (f g : ℕ) (s t o p : List ℕ) → number (into (listingOf sentDown f s) o .0) ≡ number (into (listingOf sentDown g t) p .0)
       → into (listingOf sentDown f s) o .0 ≡ into (listingOf sentDown g t) p .0

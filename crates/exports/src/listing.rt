@@ -1,5 +1,5 @@
-// The listing of a stream that a device is sent in a frame: its length, and its text. Each answers the text's length, or 4, the number of the refusal, which
-// no text is short enough for.
+// The listing of a stream that a device is sent in a frame: its length, and its text. Each answers the text's length, or 4, the number of the
+// refusal, which no text is short enough for.
 use listings::ListingAnswer;
 use listings::listing_len;
 use listings::write_listing;

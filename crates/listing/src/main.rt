@@ -1,5 +1,5 @@
-// Prints the listing of a capture, in frame 0 (RULES: L10). Standard input holds a letter, U or D, and then the bytes of a stream, at most 1,024. Any other
-// input, and one that can't be read, gets the line "bad input".
+// Prints the listing of a capture, in frame 0 (RULES: L10). Standard input holds a letter, U or D, and then the bytes of a stream, at most 1,024. Any
+// other input, and one that can't be read, gets the line "bad input".
 use libc::STDIN_FILENO;
 use libc::STDOUT_FILENO;
 use listings::ListingAnswer;

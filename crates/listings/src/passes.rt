@@ -75,7 +75,8 @@ pub fn listing_len(rules: Rules, frame: u32, stream: &[u8]) -> ListingAnswer
     measure(rules, frame, stream, usize::MAX)
 }
 
-// Writes the listing of a stream in a frame at the front of lent memory, and answers its length. Where there is no room for all of it, nothing is written.
+// Writes the listing of a stream in a frame at the front of lent memory, and answers its length. Where there is no room for all of it, nothing is
+// written.
 pub fn write_listing(rules: Rules, frame: u32, stream: &[u8], out: &mut [u8]) -> ListingAnswer
     ensures { λ r. ⌜ (toldListing r, now (out .exit)) ≡ into (listingOf rules frame (now (stream .entry))) (now (out .entry)) ⌝ }
 {

@@ -29,17 +29,21 @@ line-len-requires c κs = c .step-at .ensures
 add-len : tie.Need-add-len Inv-loop μ-loop
 add-len c =
     let s = c .before .before .before in
+    let i = s .before .before in
     let e = s .stamp-len .ensures in
     let l = c .line-len .ensures .1 in
-    omega (arith, stamp-few (s .before .before .args .frame) (let f = s .before .before .fits .frame in omega arith))
+    omega (arith, stamp-few (i .args .frame) (let f = i .fits .frame in omega arith))
 
 -- the length of a step's line
-line-long : (c : tie.After-line-len Inv-loop μ-loop) → c .before .before .before .stamp-len .result + c .line-len .result
-    ≡ length (stepText (c .before .before .before .before .before .args .rules) (c .before .before .before .before .before .args .frame) (c .before .before .before .before .before .args .stream .now) (c .before .before .loop .at) (toldStep (c .before .step-at .result)))
-line-long c =
-    let i = c .before .before .before .before .before in
-    ap₂ (λ (a b : ℕ). a + b) (c .before .before .before .stamp-len .ensures) (c .line-len .ensures .0)
-    ∙ sym (frame-long (i .args .frame) (stepLine (i .args .rules) (i .args .stream .now) (c .before .before .loop .at) (toldStep (c .before .step-at .result))))
+module _ (c : tie.After-line-len Inv-loop μ-loop) where
+  abbrev i : tie.Start Inv-loop μ-loop
+  i = c .before .before .before .before .before
+
+  line-long : c .before .before .before .stamp-len .result + c .line-len .result
+      ≡ length (stepText (i .args .rules) (i .args .frame) (i .args .stream .now) (c .before .before .loop .at) (toldStep (c .before .step-at .result)))
+  line-long =
+      ap₂ (λ (a b : ℕ). a + b) (c .before .before .before .stamp-len .ensures) (c .line-len .ensures .0)
+      ∙ sym (frame-long (i .args .frame) (stepLine (i .args .rules) (i .args .stream .now) (c .before .before .loop .at) (toldStep (c .before .step-at .result))))
 
 sub-if1 : tie.Need-sub-if1 Inv-loop μ-loop
 sub-if1 c = let s = c .before .before .loop .inv .small in search needs
