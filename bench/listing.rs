@@ -1,20 +1,20 @@
-//! The listing of a stream that a device is sent, in Rust: as a program would write it, and by hand. Each answers the text's length.
+//! The listing of a stream that a device is sent in a frame, in Rust: as a program would write it, and by hand. Each answers the text's length.
 
 use crate::original::listing::maccommands::{parse_downlink_mac_commands, DownlinkMacCommand, SerializableMacCommand};
 use std::io::{Result, Write};
 
 /// Over the original's iterator, with `write!`.
 #[inline(never)]
-pub fn plain(stream: &[u8], text: &mut Vec<u8>) -> u64 {
+pub fn plain(frame: u32, stream: &[u8], text: &mut Vec<u8>) -> u64 {
     text.clear();
-    write_plain(stream, text).expect("there is room");
+    write_plain(frame, stream, text).expect("there is room");
     text.len() as u64
 }
 
-fn write_plain(stream: &[u8], text: &mut Vec<u8>) -> Result<()> {
+fn write_plain(frame: u32, stream: &[u8], text: &mut Vec<u8>) -> Result<()> {
     let mut at = 0;
     for command in parse_downlink_mac_commands(stream) {
-        write!(text, "{at}\tD\t{:02X}\t{}\t", command.cid(), name(&command))?;
+        write!(text, "{frame}\t{at}\tD\t{:02X}\t{}\t", command.cid(), name(&command))?;
         if command.len() == 0 {
             write!(text, "-")?;
         }
@@ -29,9 +29,9 @@ fn write_plain(stream: &[u8], text: &mut Vec<u8>) -> Result<()> {
         at += 1 + command.len();
     }
     match stream.get(at) {
-        None => writeln!(text, "{at}\tend"),
-        Some(0x02..=0x0A | 0x0D) => writeln!(text, "{at}\tstop\t2"),
-        Some(_) => writeln!(text, "{at}\tstop\t1"),
+        None => writeln!(text, "{frame}\t{at}\tend"),
+        Some(0x02..=0x0A | 0x0D) => writeln!(text, "{frame}\t{at}\tstop\t2"),
+        Some(_) => writeln!(text, "{frame}\t{at}\tstop\t1"),
     }
 }
 
@@ -82,13 +82,20 @@ const HEX: [[u8; 2]; 256] = {
 
 /// By hand: tables and digits, into memory that has room for the text. Some bytes behind it may change.
 #[inline(never)]
-pub fn by_hand(stream: &[u8], out: &mut [u8]) -> u64 {
+pub fn by_hand(frame: u32, stream: &[u8], out: &mut [u8]) -> u64 {
+    // The frame's digits and a tab. All that is behind them is copied as well, so that no length is guessed.
+    let mut stamp = [b'\t'; 16];
+    let stamped = decimal(frame as usize, &mut stamp, 0) + 1;
+    let begun = |at, out: &mut [u8], end| {
+        out[end..end + 16].copy_from_slice(&stamp);
+        decimal(at, out, end + stamped)
+    };
     let (mut at, mut end) = (0, 0);
     let ending: &[u8] = loop {
         let Some(&cid) = stream.get(at) else { break b"\tend\n" };
         let Some(&(middle, len)) = DOWN.get(cid as usize).filter(|(middle, _)| !middle.is_empty()) else { break b"\tstop\t1\n" };
         let Some(payload) = stream.get(at + 1..at + 1 + len) else { break b"\tstop\t2\n" };
-        end = decimal(at, out, end);
+        end = begun(at, out, end);
         out[end..end + middle.len()].copy_from_slice(middle);
         end += middle.len();
         // Five bytes, whatever the length, where the stream has them: so no length is guessed.
@@ -109,7 +116,7 @@ pub fn by_hand(stream: &[u8], out: &mut [u8]) -> u64 {
         end += 1;
         at += 1 + len;
     };
-    end = decimal(at, out, end);
+    end = begun(at, out, end);
     out[end..end + ending.len()].copy_from_slice(ending);
     (end + ending.len()) as u64
 }

@@ -30,6 +30,9 @@ const USAGE: &str = "usage: bench COMMAND
 /// Streams are made until they have about a megabyte, so that no branch predictor can learn a case by heart.
 const MEGABYTE: usize = 1_000_000;
 
+/// The frame that streams are listed in, of five digits.
+const FRAME: u32 = 12_345;
+
 /// So many commands are in the lists of a case, all together.
 const COMMANDS: usize = 16_384;
 
@@ -95,8 +98,8 @@ impl Work {
 /// What a side does with a stream, of which it is told how many commands it hands out.
 type OnStream = fn(&[u8], usize) -> u64;
 
-/// What a side writes of a stream: so many bytes, in front of memory that has room for them.
-type OnText = fn(&[u8], &mut Vec<u8>) -> u64;
+/// What a side writes of a stream in a frame: so many bytes, in front of memory that has room for them.
+type OnText = fn(u32, &[u8], &mut Vec<u8>) -> u64;
 
 /// A kind of work on inputs of one size, in one order.
 #[derive(Clone, Copy)]
@@ -149,7 +152,7 @@ impl Case {
             Work::Hosted => self.over_lists(self.made(seed), on_objects, |list, slots, out| port::hosted(&list.objects, slots, out)),
             Work::Packed => self.over_lists(self.made(seed), on_objects, |list, _, out| port::build(&list.slots, out)),
             Work::Listing => self.over_texts(seed, listing::plain),
-            Work::ListingByHand => self.over_texts(seed, |stream, text| listing::by_hand(stream, text)),
+            Work::ListingByHand => self.over_texts(seed, |frame, stream, text| listing::by_hand(frame, stream, text)),
         }
     }
 
@@ -173,14 +176,14 @@ impl Case {
         Ready { commands: streams.each().map(|(_, n)| n).sum(), rust: side(rust), rattle: side(rattle) }
     }
 
-    /// Each side writes into memory of its own that stands ready. No line has more than 32 bytes for each byte of its command.
+    /// Each side writes into memory of its own that stands ready. No line has more than 40 bytes for each byte of its command.
     fn over_texts(self, seed: u64, rust: OnText) -> Ready {
         let streams = self.streams(Streams::whole, seed);
-        let rattle: OnText = |stream, text| port::listing(stream, text);
-        let room = || vec![0; 32 * (self.size + 1)];
+        let rattle: OnText = |frame, stream, text| port::listing(frame, stream, text);
+        let room = || vec![0; 40 * (self.size + 1)];
         let (mut one, mut other) = (room(), room());
         for (stream, _) in streams.each() {
-            let (rust, rattle) = (rust(stream, &mut one), rattle(stream, &mut other));
+            let (rust, rattle) = (rust(FRAME, stream, &mut one), rattle(FRAME, stream, &mut other));
             same(String::from_utf8_lossy(&one[..rust as usize]), String::from_utf8_lossy(&other[..rattle as usize]), stream);
         }
         let side = |side: OnText, text: Vec<u8>| {
@@ -188,7 +191,7 @@ impl Case {
             Box::new(move || {
                 let side = black_box(side);
                 for (stream, _) in streams.each() {
-                    black_box(side(black_box(stream), black_box(&mut text.borrow_mut())));
+                    black_box(side(black_box(FRAME), black_box(stream), black_box(&mut text.borrow_mut())));
                 }
             })
         };

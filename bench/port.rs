@@ -6,7 +6,7 @@ use crate::original::building::maccommands::SerializableMacCommand;
 extern "C" {
     fn nazhdivar_count(stream: *const u8, len: usize) -> usize;
     fn nazhdivar_build(records: *const u8, len: usize, out: *mut u8, room: usize) -> u64;
-    fn nazhdivar_listing(stream: *const u8, len: usize, out: *mut u8, room: usize) -> u64;
+    fn nazhdivar_listing(frame: u32, stream: *const u8, len: usize, out: *mut u8, room: usize) -> u64;
 
     fn nazhdivar_nth(stream: *const u8, len: usize, n: usize) -> u64;
     fn nazhdivar_fields(stream: *const u8, len: usize) -> u64;
@@ -35,10 +35,10 @@ pub fn build(records: &[u8], out: &mut [u8]) -> u64 {
     unsafe { nazhdivar_build(records.as_ptr(), records.len(), out.as_mut_ptr(), out.len()) }
 }
 
-/// The length of a stream's listing, which is written; or 4 where it has no room.
+/// The length of a stream's listing in a frame, which is written; or 4 where it has no room.
 #[inline(never)]
-pub fn listing(stream: &[u8], out: &mut [u8]) -> u64 {
-    unsafe { nazhdivar_listing(stream.as_ptr(), stream.len(), out.as_mut_ptr(), out.len()) }
+pub fn listing(frame: u32, stream: &[u8], out: &mut [u8]) -> u64 {
+    unsafe { nazhdivar_listing(frame, stream.as_ptr(), stream.len(), out.as_mut_ptr(), out.len()) }
 }
 
 /// What a host in Rust does with the Rust's own objects: it packs each into a slot, CID, length and payload, and hands the slots over.

@@ -29,20 +29,20 @@ use Rattle.claims.specs.Handing.{ReadAs}
 use Rattle.claims.proofs.Handing as Handing
 use Rattle.claims.proofs.Keeping.{both}
 
-module _ (rules : Rules) (stream : RefT (List ℕ)) where
+module _ (rules : Rules) (frame : ℕ) (stream : RefT (List ℕ)) where
   abbrev all : List ℕ
-  all = listingOf rules (now stream)
+  all = listingOf rules frame (now stream)
 
   -- the two contracts, of what is told
-  lists : (out : RefT (List ℕ)) (a : Answer ℕ) (after : List ℕ) → Lists rules stream out a after → _≡_ {A = Answer ℕ × List ℕ} (a, after) (into all (now out))
+  lists : (out : RefT (List ℕ)) (a : Answer ℕ) (after : List ℕ) → Lists rules frame stream out a after → _≡_ {A = Answer ℕ × List ℕ} (a, after) (into all (now out))
   lists out a after l =
       let g = l .admitted .1 .1 in
       ap (λ (x : Answer ℕ). (x, after)) (sym (l .told)) ∙ ap (λ (o : List ℕ). (toldListing (l .answer), o)) (sym (g .1)) ∙ g .0
 
-  sizes : (a : Answer ℕ) → Sizes rules stream a → a ≡ lengthWithin largest all
+  sizes : (a : Answer ℕ) → Sizes rules frame stream a → a ≡ lengthWithin largest all
   sizes a l = sym (l .told) ∙ l .admitted .1 .1
 
-  written-all : TextIs rules stream all
+  written-all : TextIs rules frame stream all
   unfolding lengthWithin
   written-all = record {
     room = λ out a after l h. let e = both (lists out a after l ∙ into-room all (now out) h) in (e .0, e .1 ∙ over-front (now out) all);
@@ -51,7 +51,7 @@ module _ (rules : Rules) (stream : RefT (List ℕ)) where
     too-long = λ a l h. simp (lt-leb (length all) largest h) at (sizes a l);
   }
 
-  pub says-what-is-read : SaysWhatIsRead rules stream
+  pub says-what-is-read : SaysWhatIsRead rules frame stream
   says-what-is-read = record {
     cmds = walkOf (lengthOf rules) (now stream) .cmds;
     ending = walkOf (lengthOf rules) (now stream) .ending;
@@ -60,7 +60,7 @@ module _ (rules : Rules) (stream : RefT (List ℕ)) where
   }
 
   -- what stands at the front, where the writer answers a length
-  front : (out : RefT (List ℕ)) (n : ℕ) (after : List ℕ) → Lists rules stream out (given n) after → take n after ≡ all
+  front : (out : RefT (List ℕ)) (n : ℕ) (after : List ℕ) → Lists rules frame stream out (given n) after → take n after ≡ all
   front out n after l = by (decLe (length all) (length (now out)))
     where
       by : Dec (length all ≤ length (now out)) → take n after ≡ all
@@ -76,23 +76,25 @@ module _ (rules : Rules) (stream : RefT (List ℕ)) where
           absurd (omega arith)
 
 pub text-fixes : TextFixes
-text-fixes rules s t o p n after after' l l' e =
-    let same : walkOf (lengthOf rules) (now s) ≡ walkOf (lengthOf rules) (now t) =
-    text-fixes-walk rules (walkOf (lengthOf rules) (now s)) (walkOf (lengthOf rules) (now t)) (sym (front rules s o n after l) ∙ e ∙ front rules t p n after' l') in
-    record {
-      cmds = walkOf (lengthOf rules) (now s) .cmds;
-      ending = walkOf (lengthOf rules) (now s) .ending;
-      one = Handing.reads rules s;
-      other = subst (λ (w : Walk). ReadAs rules t (w .cmds) (w .ending)) (sym same) (Handing.reads rules t);
-    }
+text-fixes rules f g s t o p n after after' l l' e =
+    let same = text-fixes-walk rules f g (walkOf (lengthOf rules) (now s)) (walkOf (lengthOf rules) (now t)) (sym (front rules f s o n after l) ∙ e ∙ front rules g t p n after' l') in (
+      same .0,
+      record {
+        cmds = walkOf (lengthOf rules) (now s) .cmds;
+        ending = walkOf (lengthOf rules) (now s) .ending;
+        one = Handing.reads rules s;
+        other = subst (λ (w : Walk). ReadAs rules t (w .cmds) (w .ending)) (sym (same .1)) (Handing.reads rules t);
+      },
+    )
 
--- an example whose text is what is defined
-shown-by : (e : Example) → listingOf (record { direction = e .direction }) (e .bytes) ≡ ascii (e .shown) → Shown e
-shown-by e p stream q =
-    subst (TextIs (record { direction = e .direction }) stream) (ap (listingOf (record { direction = e .direction })) q ∙ p) (written-all (record { direction = e .direction }) stream)
-
+-- an example's text is what is defined
 abbrev Defined : Example → Type 0
-Defined e = listingOf (record { direction = e .direction }) (e .bytes) ≡ ascii (e .shown)
+Defined e = listingOf (record { direction = e .direction }) (e .frame) (e .bytes) ≡ ascii (e .shown)
+
+shown-by : (e : Example) → Defined e → Shown e
+shown-by e p stream q =
+    subst (TextIs (record { direction = e .direction }) (e .frame) stream) (ap (listingOf (record { direction = e .direction }) (e .frame)) q ∙ p)
+    (written-all (record { direction = e .direction }) (e .frame) stream)
 
 all-shown : (es : List Example) → Every Defined es → Every Shown es
 all-shown [] d = tt
@@ -100,7 +102,7 @@ all-shown (e ∷ es) d = (shown-by e (d .0), all-shown es (d .1))
 
 defined : Every Defined examples
 unfolding go linesOf text joined decimal digits hexOf ascii tabulate
-defined = (refl, (refl, (refl, (refl, (refl, (refl, (refl, (refl, (refl, tt)))))))))
+defined = (refl, (refl, (refl, (refl, (refl, (refl, (refl, (refl, (refl, (refl, tt))))))))))
 
 pub listings-tell : ListingsTell
 listings-tell = record { says-what-is-read = says-what-is-read; text-fixes = text-fixes; shown = all-shown examples defined }

@@ -13,7 +13,7 @@ nazhdivar-build-one _ _ _ _ _ _ p q = p ∙ sym q
 nazhdivar-count-one : Fixed nazhdivar-count.Post
 nazhdivar-count-one _ _ _ _ _ _ p q = p ∙ sym q
 
-nazhdivar-listing-one : FixedWith (λ s. now (s .1 .0)) nazhdivar-listing.Post
+nazhdivar-listing-one : FixedWith (λ s. now (s .1 .1 .0)) nazhdivar-listing.Post
 nazhdivar-listing-one _ _ _ _ _ _ p q = p ∙ sym q
 
 nazhdivar-listing-len-one : Fixed nazhdivar-listing-len.Post

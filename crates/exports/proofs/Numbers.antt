@@ -11,25 +11,25 @@ use Rattle.table.specs.Answers.{Answer, given, refused}
 use Rattle.payloads.specs.Commands.{sentDown}
 use Rattle.listings.specs.Into.{lengthWithin, into}
 use Rattle.listings.specs.Listing.{listingOf}
-use Rattle.listings.proofs.Walking.{six-at-least}
+use Rattle.listings.proofs.Walking.{eight-at-least}
 use Rattle.exports.specs.Listing.{number, ListingTellsApart}
 
 -- the answer where a text of m bytes has room, and where not
 abbrev answer : ℕ → Bool → Answer ℕ
 answer m fits = cond fits (given m) (refused 4)
 
-told-apart : (m n : ℕ) → 6 ≤ m → 6 ≤ n → (a b : Bool) → number (answer m a) ≡ number (answer n b) → answer m a ≡ answer n b
+told-apart : (m n : ℕ) → 8 ≤ m → 8 ≤ n → (a b : Bool) → number (answer m a) ≡ number (answer n b) → answer m a ≡ answer n b
 told-apart m n h k true true e = ap given e
 told-apart m n h k true false e = absurd (omega arith)
 told-apart m n h k false true e = absurd (omega arith)
 told-apart m n h k false false e = refl
 
-measured-apart : (s t : List ℕ) (m n : ℕ) → number (lengthWithin m (listingOf sentDown s)) ≡ number (lengthWithin n (listingOf sentDown t))
-    → lengthWithin m (listingOf sentDown s) ≡ lengthWithin n (listingOf sentDown t)
+measured-apart : (f g : ℕ) (s t : List ℕ) (m n : ℕ) → number (lengthWithin m (listingOf sentDown f s)) ≡ number (lengthWithin n (listingOf sentDown g t))
+    → lengthWithin m (listingOf sentDown f s) ≡ lengthWithin n (listingOf sentDown g t)
 unfolding lengthWithin
-measured-apart s t m n e =
-    told-apart (length (listingOf sentDown s)) (length (listingOf sentDown t)) (six-at-least sentDown s) (six-at-least sentDown t)
-    (leb (length (listingOf sentDown s)) m) (leb (length (listingOf sentDown t)) n) e
+measured-apart f g s t m n e =
+    told-apart (length (listingOf sentDown f s)) (length (listingOf sentDown g t)) (eight-at-least sentDown f s) (eight-at-least sentDown g t)
+    (leb (length (listingOf sentDown f s)) m) (leb (length (listingOf sentDown g t)) n) e
 
 -- the writer answers as one who only measures, with memory's length for the room
 as-measured : (t out : List ℕ) → into t out .0 ≡ lengthWithin (length out) t
@@ -42,9 +42,9 @@ as-measured t out = by (leb (length t) (length out))
 
 pub listing-tells-apart : ListingTellsApart
 listing-tells-apart = record {
-  written = λ s t o p e.
-      as-measured (listingOf sentDown s) o
-      ∙ measured-apart s t (length o) (length p) (ap number (sym (as-measured (listingOf sentDown s) o)) ∙ e ∙ ap number (as-measured (listingOf sentDown t) p))
-      ∙ sym (as-measured (listingOf sentDown t) p);
+  written = λ f g s t o p e.
+      as-measured (listingOf sentDown f s) o
+      ∙ measured-apart f g s t (length o) (length p) (ap number (sym (as-measured (listingOf sentDown f s) o)) ∙ e ∙ ap number (as-measured (listingOf sentDown g t) p))
+      ∙ sym (as-measured (listingOf sentDown g t) p);
   measured = measured-apart;
 }

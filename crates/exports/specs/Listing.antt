@@ -16,9 +16,10 @@ number (refused k) = k
 abbrev pub withNumber : Answer ℕ × List ℕ → ℕ × List ℕ
 withNumber a = (number (a .0), a .1)
 
--- two texts down with the same number have the same answer, written or only measured: the refusal's number is 4, and no text is so short
+-- two texts down, each in a frame, with the same number have the same answer, written or only measured: the refusal's number is 4, and no text is so
+-- short
 pub record ListingTellsApart : Type 0 where
-  pub written : (s t o p : List ℕ) → number (into (listingOf sentDown s) o .0) ≡ number (into (listingOf sentDown t) p .0)
-      → into (listingOf sentDown s) o .0 ≡ into (listingOf sentDown t) p .0
-  pub measured : (s t : List ℕ) (m n : ℕ) → number (lengthWithin m (listingOf sentDown s)) ≡ number (lengthWithin n (listingOf sentDown t))
-      → lengthWithin m (listingOf sentDown s) ≡ lengthWithin n (listingOf sentDown t)
+  pub written : (f g : ℕ) (s t o p : List ℕ) → number (into (listingOf sentDown f s) o .0) ≡ number (into (listingOf sentDown g t) p .0)
+      → into (listingOf sentDown f s) o .0 ≡ into (listingOf sentDown g t) p .0
+  pub measured : (f g : ℕ) (s t : List ℕ) (m n : ℕ) → number (lengthWithin m (listingOf sentDown f s)) ≡ number (lengthWithin n (listingOf sentDown g t))
+      → lengthWithin m (listingOf sentDown f s) ≡ lengthWithin n (listingOf sentDown g t)

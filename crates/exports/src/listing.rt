@@ -1,5 +1,5 @@
-// The listing of a stream that a device is sent: its length, and its text. Each answers the text's length, or 4, the number of the refusal, which
-// no text is short enough for.
+// The listing of a stream that a device is sent in a frame: its length, and its text. Each answers the text's length, or 4, the number of the
+// refusal, which no text is short enough for.
 use listings::ListingAnswer;
 use listings::listing_len;
 use listings::write_listing;
@@ -23,23 +23,23 @@ fn number(answer: ListingAnswer) -> u64
 
 // The length alone, to size the memory by.
 #[no_mangle]
-pub extern "C" fn nazhdivar_listing_len(stream: &[u8]) -> u64
-    ensures { λ r. ⌜ r ≡ Listing·number (lengthWithin largest (listingOf sentDown (now (stream .entry)))) ⌝ }
+pub extern "C" fn nazhdivar_listing_len(frame: u32, stream: &[u8]) -> u64
+    ensures { λ r. ⌜ r ≡ Listing·number (lengthWithin largest (listingOf sentDown frame (now (stream .entry)))) ⌝ }
 {
     let rules = Rules {
         direction: Direction::Down,
     };
-    number(listing_len(rules, stream))
+    number(listing_len(rules, frame, stream))
 }
 
 // The text, at the front of lent memory.
 #[no_mangle]
-pub extern "C" fn nazhdivar_listing(stream: &[u8], out: &mut [u8]) -> u64
-    ensures { λ r. ⌜ (r, now (out .exit)) ≡ withNumber (into (listingOf sentDown (now (stream .entry))) (now (out .entry))) ⌝ }
+pub extern "C" fn nazhdivar_listing(frame: u32, stream: &[u8], out: &mut [u8]) -> u64
+    ensures { λ r. ⌜ (r, now (out .exit)) ≡ withNumber (into (listingOf sentDown frame (now (stream .entry))) (now (out .entry))) ⌝ }
 {
     let rules = Rules {
         direction: Direction::Down,
     };
-    let answer = write_listing(rules, stream, out);
+    let answer = write_listing(rules, frame, stream, out);
     number(answer)
 }

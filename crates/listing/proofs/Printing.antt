@@ -44,30 +44,30 @@ module _ (t out : List ℕ) (h : length t ≤ length out) where
 
 -- ---- whatever is printed has room
 
-pub bad-few : length badInput ≤ 28595
+pub bad-few : length badInput ≤ 30645
 unfolding badInput joined ascii
 bad-few = omega arith
 
-letter-few : (letter : ℕ) (s : List ℕ) → length s ≤ 1024 → length (byLetter letter s) ≤ 28595
+letter-few : (letter : ℕ) (s : List ℕ) → length s ≤ 1024 → length (byLetter letter s) ≤ 30645
 unfolding byLetter ascii
 letter-few letter s h = by (eqb letter 68) (eqb letter 85)
   where
-    by : (d u : Bool) → length (cond d (listingOf sentDown s) (cond u (listingOf sentUp s) badInput)) ≤ 28595
-    by true u = text-of-1024 sentDown s h
-    by false true = text-of-1024 sentUp s h
+    by : (d u : Bool) → length (cond d (listingOf sentDown 0 s) (cond u (listingOf sentUp 0 s) badInput)) ≤ 30645
+    by true u = text-of-1024 .in-frame-0 sentDown s h
+    by false true = text-of-1024 .in-frame-0 sentUp s h
     by false false = bad-few
 
-printed-few : (s : List ℕ) → length (printedFor s) ≤ 28595
+printed-few : (s : List ℕ) → length (printedFor s) ≤ 30645
 unfolding printedFor
 printed-few [] = bad-few
 printed-few (c ∷ s) = by (leb (length s) 1024) refl
   where
-    by : (b : Bool) → leb (length s) 1024 ≡ b → length (cond b (byLetter c s) badInput) ≤ 28595
+    by : (b : Bool) → leb (length s) 1024 ≡ b → length (cond b (byLetter c s) badInput) ≤ 30645
     by true e = letter-few c s (leb-true (length s) 1024 e)
     by false e = bad-few
 
 -- so it ends within memory
-pub printed-within : (s out : List ℕ) → 28595 ≤ length out → {n : ℕ} {o : List ℕ} → _≡_ {A = ℕ × List ℕ} (n, o) (atFront (printedFor s) out) → n ≤ length o
+pub printed-within : (s out : List ℕ) → 30645 ≤ length out → {n : ℕ} {o : List ℕ} → _≡_ {A = ℕ × List ℕ} (n, o) (atFront (printedFor s) out) → n ≤ length o
 printed-within s out h {n} {o} e =
     let few = printed-few s in
     let n-is : n ≡ length (printedFor s) = ap (λ (x : ℕ × List ℕ). x .0) e in
@@ -98,11 +98,11 @@ module _ (s : List ℕ) (some : length s ≡ 0 → ⊥) (few : length s ≤ 1025
           let n : length (c ∷ s) - 1 ≡ length s = omega arith in
           ap (λ (k : ℕ). byLetter c (take k s)) n ∙ ap (byLetter c) (take-length s) ∙ simp (le-leb (length s) 1024 (omega arith))
 
-  pub for-down : getD s 0 0 ≡ 68 → listingOf sentDown (take (length s - 1) (drop 1 s)) ≡ printedFor s
+  pub for-down : getD s 0 0 ≡ 68 → listingOf sentDown 0 (take (length s - 1) (drop 1 s)) ≡ printedFor s
   unfolding byLetter ascii
   for-down e = simp (eq-eqb (getD s 0 0) 68 e) at letter-is
 
-  pub for-up : (getD s 0 0 ≡ 68 → ⊥) → getD s 0 0 ≡ 85 → listingOf sentUp (take (length s - 1) (drop 1 s)) ≡ printedFor s
+  pub for-up : (getD s 0 0 ≡ 68 → ⊥) → getD s 0 0 ≡ 85 → listingOf sentUp 0 (take (length s - 1) (drop 1 s)) ≡ printedFor s
   unfolding byLetter ascii
   for-up d e = simp (ne-eqb (getD s 0 0) 68 d, eq-eqb (getD s 0 0) 85 e) at letter-is
 

@@ -15,11 +15,11 @@ use Rattle.listings.specs.Listing.{letterOf, listingOf}
 unfoldable pub badInput : List ℕ
 badInput = line (record { first = ascii "bad input"; more = [] })
 
--- by the letter
+-- by the letter, in frame 0
 unfoldable pub byLetter : (letter : ℕ) → List ℕ → List ℕ
 byLetter letter stream =
-    cond (eqb letter (characterOf (letterOf Down))) (listingOf sentDown stream)
-    (cond (eqb letter (characterOf (letterOf Up))) (listingOf sentUp stream) badInput)
+    cond (eqb letter (characterOf (letterOf Down))) (listingOf sentDown 0 stream)
+    (cond (eqb letter (characterOf (letterOf Up))) (listingOf sentUp 0 stream) badInput)
 
 -- a letter, and at most 1,024 bytes behind it
 unfoldable pub printedFor : List ℕ → List ℕ

@@ -1,5 +1,5 @@
-// Prints the listing of a capture (RULES: L10). Standard input holds a letter, U or D, and then the bytes of a stream, at most 1,024. Any other
-// input, and one that can't be read, gets the line "bad input".
+// Prints the listing of a capture, in frame 0 (RULES: L10). Standard input holds a letter, U or D, and then the bytes of a stream, at most 1,024. Any
+// other input, and one that can't be read, gets the line "bad input".
 use libc::STDIN_FILENO;
 use libc::STDOUT_FILENO;
 use listings::ListingAnswer;
@@ -36,18 +36,18 @@ fn read_input(buf: &mut [u8]) -> usize
 }
 
 fn put_bad(out: &mut [u8]) -> usize
-    requires { ⌜ 28595 ≤ length (now out) ⌝ }
+    requires { ⌜ 30645 ≤ length (now out) ⌝ }
     ensures { λ r. ⌜ (r, now (out .exit)) ≡ atFront badInput (now (out .entry)) ⌝ }
 {
     put_bytes(out, 0, b"bad input\n")
 }
 
-// The longest text of a stream of 1,024 bytes has 28,595 characters, for which there is room, so no text is refused.
+// The longest text of a stream of 1,024 bytes has 30,645 characters in frame 0, for which there is room, so no text is refused.
 fn put_listing(rules: Rules, stream: &[u8], out: &mut [u8]) -> usize
-    requires { ⌜ (length (now stream) ≤ 1024) × (28595 ≤ length (now out)) ⌝ }
-    ensures { λ r. ⌜ (r, now (out .exit)) ≡ atFront (listingOf rules (now (stream .entry))) (now (out .entry)) ⌝ }
+    requires { ⌜ (length (now stream) ≤ 1024) × (30645 ≤ length (now out)) ⌝ }
+    ensures { λ r. ⌜ (r, now (out .exit)) ≡ atFront (listingOf rules 0 (now (stream .entry))) (now (out .entry)) ⌝ }
 {
-    let answer = write_listing(rules, stream, out);
+    let answer = write_listing(rules, 0, stream, out);
     match answer {
         ListingAnswer::Total(total) => total,
         ListingAnswer::Refused(_) => 0,
@@ -56,7 +56,7 @@ fn put_listing(rules: Rules, stream: &[u8], out: &mut [u8]) -> usize
 
 // Puts what is printed for an input at the front of out, and answers how many bytes it has.
 fn answer(input: &[u8], out: &mut [u8]) -> usize
-    requires { ⌜ 28595 ≤ length (now out) ⌝ }
+    requires { ⌜ 30645 ≤ length (now out) ⌝ }
     ensures { λ r. ⌜ (r, now (out .exit)) ≡ atFront (printedFor (now (input .entry))) (now (out .entry)) ⌝ }
 {
     if input.len() == 0 {
@@ -82,7 +82,7 @@ fn answer(input: &[u8], out: &mut [u8]) -> usize
 }
 
 fn print(input: &[u8], out: &mut [u8])
-    requires { ⌜ 28595 ≤ length (now out) ⌝ }
+    requires { ⌜ 30645 ≤ length (now out) ⌝ }
 {
     let n = answer(input, out);
     io::write_all(STDOUT_FILENO, &out[..n]);
@@ -90,7 +90,7 @@ fn print(input: &[u8], out: &mut [u8])
 
 fn main() {
     let mut space = [0u8; 1026];
-    let mut room = [0u8; 28595];
+    let mut room = [0u8; 30645];
     let n = read_input(&mut space);
     print(&space[..n], &mut room);
 }

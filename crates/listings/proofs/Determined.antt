@@ -9,6 +9,6 @@ use Rattle.listings.proofs.passes.write_listing.Reads as write-listing
 listing-len-one : Fixed listing-len.Post
 listing-len-one _ _ _ _ _ _ p q = listing-tells (p ∙ sym q)
 
-write-listing-one : FixedWith (λ s. now (s .1 .1 .0)) write-listing.Post
+write-listing-one : FixedWith (λ s. now (s .1 .1 .1 .0)) write-listing.Post
 write-listing-one _ _ _ _ _ _ p q =
     ap₂ (λ r o. (r, o)) (listing-tells (ap (λ x. x .0) (p ∙ sym q))) (ap (λ x. x .1) (p ∙ sym q))

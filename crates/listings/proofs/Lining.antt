@@ -21,12 +21,12 @@ use Rattle.fields.proofs.Lists.{length-tabulate}
 use Rattle.text.specs.Characters.{ascii}
 use Rattle.text.specs.Decimal.{decimal}
 use Rattle.text.specs.Hex.{hexByte, hexOf, hexField}
-use Rattle.text.specs.Lines.{joined, line}
+use Rattle.text.specs.Lines.{Line, joined, line}
 use Rattle.text.proofs.Decimals.{decimal-at-most}
 use Rattle.text.proofs.Naming.{namesPass, every-name}
 use Rattle.walk.specs.Walk.{placed, end, stop}
-use Rattle.listings.specs.Listing.{channels, letterOf, commandLine, lastLine}
-use Rattle.listings.specs.Passes.{bodyAt, before, behind, isCounted}
+use Rattle.listings.specs.Listing.{channels, letterOf, commandLine, lastLine, inFrame}
+use Rattle.listings.specs.Passes.{bodyAt, stamp, before, behind, isCounted}
 
 -- ---- which command has a count
 
@@ -78,7 +78,11 @@ four-of Up c n e l = let no-way : _≡_ {A = Bool} false true = e in cc
 pub counted-four : (rules : Rules) (c n : ℕ) → isCounted rules c ≡ true → lengthOf rules c ≡ some n → n ≡ 4
 counted-four rules c n e l = four-of (rules .direction) c n (sym (counted-is (rules .direction) c) ∙ e) l
 
--- ---- the parts of a command's line
+-- ---- the parts of a line
+
+pub frame-parts : (frame : ℕ) (l : Line) → line (inFrame frame l) ≡ stamp frame ++ line l
+unfolding joined
+frame-parts frame l = sym (append-assoc (decimal frame) (9 ∷ []) (line l))
 
 module _ (rules : Rules) (at cid : ℕ) (body : List ℕ) where
   pub command-parts : line (commandLine rules (placed at cid body)) ≡ before rules at cid ++ hexField body ++ behind (isCounted rules cid) (channels body)
@@ -92,6 +96,12 @@ module _ (rules : Rules) (at cid : ℕ) (body : List ℕ) where
       by false = simp append-assoc
 
 -- ---- lengths
+
+pub stamp-long : (frame : ℕ) → length (stamp frame) ≡ length (decimal frame) + 1
+stamp-long frame = length-append (decimal frame) (9 ∷ [])
+
+pub frame-long : (frame : ℕ) (l : Line) → length (line (inFrame frame l)) ≡ length (stamp frame) + length (line l)
+frame-long frame l = ap length (frame-parts frame l) ∙ length-append (stamp frame) (line l)
 
 pub letter-long : (d : Direction) → length (ascii (letterOf d)) ≡ 1
 unfolding ascii
@@ -118,10 +128,13 @@ stop-long number at =
     length-append (decimal at) (9 ∷ joined (ascii "stop") (decimal number ∷ []))
     ∙ simp length-append (omega arith)
 
--- ---- bounds: a number of 64 bits has 20 digits at most, and a name 16 letters
+-- ---- bounds: a number of 64 bits has 20 digits at most, one of 32 bits 10, and a name 16 letters
 
 pub digits-few : (n : ℕ) → n < 2 ^ 64 → length (decimal n) ≤ 20
 digits-few n h = decimal-at-most 19 n (omega arith)
+
+pub stamp-few : (frame : ℕ) → frame < 2 ^ 32 → length (stamp frame) ≤ 11
+stamp-few frame h = omega (arith, stamp-long frame, decimal-at-most 9 frame (omega arith))
 
 short-by : (d : Direction) → namesPass (λ (n : String). leb (length (ascii n)) 16) d rows ≡ true
 unfolding ascii namesPass

@@ -12,11 +12,36 @@ use Rattle.table.specs.Table.{nameOf}
 use Rattle.text.specs.Characters.{ascii}
 use Rattle.text.specs.Decimal.{decimal}
 use Rattle.text.specs.Hex.{hexByte, hexField}
-use Rattle.text.specs.Lines.{joined, line}
+use Rattle.text.specs.Lines.{Line, joined, line}
 use Rattle.walk.specs.Walk.{placed, end, stop}
-use Rattle.listings.specs.Listing.{channels, letterOf, commandLine, lastLine}
-use Rattle.listings.specs.Passes.{before, behind, isCounted}
-use Rattle.listings.proofs.Lining.{before-long, command-long, command-parts, counted-long, end-long, letter-long, stop-long}
+use Rattle.listings.specs.Listing.{channels, letterOf, commandLine, lastLine, inFrame}
+use Rattle.listings.specs.Passes.{stamp, before, behind, isCounted}
+use Rattle.listings.proofs.Lining.{before-long, command-long, command-parts, counted-long, end-long, frame-long, frame-parts, letter-long, stamp-long, stop-long}
+
+module _ (frame : ℕ) (out : List ℕ) (to : ℕ) where
+  pub stamp-put : to + length (stamp frame) ≤ length out → {n1 n2 : ℕ} {o1 o2 : List ℕ}
+      → Left n1 o1 out to (decimal frame) → Left n2 o2 o1 n1 (9 ∷ []) → Left n2 o2 out to (stamp frame)
+  stamp-put h e1 e2 =
+      let l = stamp-long frame in
+      let p1 = puts-of (omega arith) e1 in
+      written-of (puts-more (9 ∷ []) p1 (omega arith) e2)
+
+  -- any line behind the stamp
+  module _ (l : Line) (h : to + length (line (inFrame frame l)) ≤ length out) where
+    pub stamp-room : to + length (stamp frame) ≤ length out
+    stamp-room = omega (arith, frame-long frame l)
+
+    module _ {n1 : ℕ} {o1 : List ℕ} (e1 : Left n1 o1 out to (stamp frame)) where
+      stamped : Puts out to (stamp frame) n1 o1
+      stamped = puts-of stamp-room e1
+
+      pub line-room : (to ≤ n1) × (n1 + length (line l) ≤ length o1)
+      line-room = let b = stamped .behind in (omega arith, omega (arith, puts-length stamped, frame-long frame l))
+
+      pub line-put : {n2 : ℕ} {o2 : List ℕ} → Left n2 o2 o1 n1 (line l) → Left n2 o2 out to (line (inFrame frame l))
+      line-put {n2} {o2} e2 =
+          let second = puts-more (line l) stamped (omega (arith, frame-long frame l)) e2 in
+          written-of (subst (λ (t : List ℕ). Puts out to t n2 o2) (sym (frame-parts frame l)) second)
 
 module _ (rules : Rules) (at cid : ℕ) (out : List ℕ) (to : ℕ) where
   pub before-put : {c : ℕ} {n1 n2 n3 n4 n5 n6 n7 n8 : ℕ} {o1 o2 o3 o4 o5 o6 o7 o8 : List ℕ} → to + length (before rules at cid) ≤ length out

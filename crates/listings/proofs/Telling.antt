@@ -1,9 +1,9 @@
--- The text of a walk fixes the walk: specs/Telling.antt. Assumes nothing.
+-- The text of a walk fixes its frame and the walk: specs/Telling.antt. Assumes nothing.
 use Prim.Native.Nat.{ℕ}
 use Prim.Native.String.{String}
 use mathlib.Core.Bool.{Bool, true, false, cond}
-use mathlib.Core.List.{List, [], _∷_}
-use mathlib.Core.Path.{_≡_, refl, sym, ap, ap₂}
+use mathlib.Core.List.{List, [], _∷_, map}
+use mathlib.Core.Path.{_≡_, refl, sym, ap, ap₂, _∙_}
 use native.Mathlib.Omega.{arith}
 use lib.ListN.{length, getD}
 use Rattle.bits.specs.Every.{Every}
@@ -20,7 +20,7 @@ use Rattle.text.proofs.Hexes.{hex-injective, hex-plain, field-injective, field-
 use Rattle.text.proofs.Lines.{head-is, tail-is, text-apart, visible, visible-plain}
 use Rattle.text.proofs.Naming.{namesPass, every-name}
 use Rattle.walk.specs.Walk.{Cmd, Placed, Ending, end, stop, Walk, finish, after}
-use Rattle.listings.specs.Listing.{channels, letterOf, commandLine, lastLine, linesOf}
+use Rattle.listings.specs.Listing.{channels, letterOf, commandLine, lastLine, inFrame, linesOf}
 use Rattle.listings.specs.Passes.{isCounted}
 use Rattle.listings.specs.Telling.{TextFixesWalk}
 
@@ -65,6 +65,10 @@ module _ (rules : Rules) where
   lines-plain [] e = (last-plain e, tt)
   lines-plain (p ∷ ps) e = (command-plain p, lines-plain ps e)
 
+framed-plain : (f : ℕ) (ls : List Line) → PlainText ls → PlainText (map (inFrame f) ls)
+framed-plain f [] p = tt
+framed-plain f (l ∷ ls) p = ((decimal-plain f, p .0), framed-plain f ls (p .1))
+
 -- ---- a line fixes what it is of
 
 byte-fixed : (a b : ℕ) → hexByte a ≡ hexByte b → a ≡ b
@@ -107,8 +111,36 @@ module _ (rules : Rules) where
   lines-fixed (p ∷ ps) (q ∷ qs) d e h =
       ap₂ after (command-fixed p q (head-is h)) (lines-fixed ps qs d e (tail-is h))
 
+-- ---- lines in a frame fix it, and the lines
+
+unframed : (f g : ℕ) (l m : Line) → inFrame f l ≡ inFrame g m → l ≡ m
+unframed f g l m e =
+    let fields : l .first ∷ l .more ≡ m .first ∷ m .more = ap (λ (l : Line). l .more) e in
+    ap₂ (λ (x : List ℕ) (xs : List (List ℕ)). record { first = x; more = xs }) (head-is fields) (tail-is fields)
+
+all-unframed : (f g : ℕ) (ls ms : List Line) → map (inFrame f) ls ≡ map (inFrame g) ms → ls ≡ ms
+all-unframed f g [] [] e = refl
+all-unframed f g [] (m ∷ ms) e = absurd (omega (arith, ap length e))
+all-unframed f g (l ∷ ls) [] e = absurd (omega (arith, ap length e))
+all-unframed f g (l ∷ ls) (m ∷ ms) e = ap₂ (λ (x : Line) (xs : List Line). x ∷ xs) (unframed f g l m (head-is e)) (all-unframed f g ls ms (tail-is e))
+
+-- the first field of all
+abbrev opening : List Line → List ℕ
+opening [] = []
+opening (l ∷ ls) = l .first
+
+opens : (rules : Rules) (f : ℕ) (ps : List Placed) (e : Ending) → opening (map (inFrame f) (linesOf rules ps e)) ≡ decimal f
+unfolding linesOf
+opens rules f [] e = refl
+opens rules f (p ∷ ps) e = refl
+
 pub text-fixes-walk : TextFixesWalk
-text-fixes-walk rules v w e =
-    lines-fixed rules (v .cmds) (w .cmds) (v .ending) (w .ending)
-    (text-apart (linesOf rules (v .cmds) (v .ending)) (linesOf rules (w .cmds) (w .ending))
-    (lines-plain rules (v .cmds) (v .ending)) (lines-plain rules (w .cmds) (w .ending)) e)
+text-fixes-walk rules f g v w e =
+    let ls : List Line = linesOf rules (v .cmds) (v .ending) in
+    let ms : List Line = linesOf rules (w .cmds) (w .ending) in
+    let same : map (inFrame f) ls ≡ map (inFrame g) ms =
+    text-apart (map (inFrame f) ls) (map (inFrame g) ms)
+    (framed-plain f ls (lines-plain rules (v .cmds) (v .ending))) (framed-plain g ms (lines-plain rules (w .cmds) (w .ending))) e in (
+      decimal-injective f g (sym (opens rules f (v .cmds) (v .ending)) ∙ ap opening same ∙ opens rules g (w .cmds) (w .ending)),
+      lines-fixed rules (v .cmds) (w .cmds) (v .ending) (w .ending) (all-unframed f g ls ms same),
+    )

@@ -1,8 +1,8 @@
--- The listing of a walk (RULES: L1 to L6): a line for each command that it hands out, and a last line for how it ended.
+-- The listing of a walk (RULES: L1 to L6, L13): a line for each command that it hands out, and a last line for how it ended, each in its frame.
 use Prim.Native.Nat.{ℕ}
 use Prim.Native.String.{String}
 use mathlib.Core.Bool.{cond}
-use mathlib.Core.List.{List, [], _∷_}
+use mathlib.Core.List.{List, [], _∷_, map}
 use lib.Text.{eqt}
 use Rattle.table.specs.declared.rules.Direction.{Direction}
 use Rattle.table.specs.declared.rules.Direction.the-variants.{Down, Up}
@@ -47,9 +47,14 @@ unfoldable pub linesOf : Rules → List Placed → Ending → List Line
 linesOf rules [] e = lastLine e ∷ []
 linesOf rules (p ∷ ps) e = commandLine rules p ∷ linesOf rules ps e
 
-abbrev pub printed : Rules → Walk → List ℕ
-printed rules w = text (linesOf rules (w .cmds) (w .ending))
+-- L13: the frame's number, in front of a line's other fields
+abbrev pub inFrame : (frame : ℕ) → Line → Line
+inFrame frame l = record { first = decimal frame; more = l .first ∷ l .more }
+
+-- with it every line begins
+abbrev pub printed : Rules → (frame : ℕ) → Walk → List ℕ
+printed rules frame w = text (map (inFrame frame) (linesOf rules (w .cmds) (w .ending)))
 
 -- the listing of a stream
-abbrev pub listingOf : Rules → List ℕ → List ℕ
-listingOf rules s = printed rules (walkOf (lengthOf rules) s)
+abbrev pub listingOf : Rules → (frame : ℕ) → List ℕ → List ℕ
+listingOf rules frame s = printed rules frame (walkOf (lengthOf rules) s)

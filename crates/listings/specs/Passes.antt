@@ -28,6 +28,10 @@ stepLine rules s at (given ended) = lastLine (end at)
 stepLine rules s at (given (stopped number o)) = lastLine (stop number at)
 stepLine rules s at (refused n) = lastLine (end at)
 
+-- what every line begins with
+abbrev pub stamp : (frame : ℕ) → List ℕ
+stamp frame = decimal frame ++ (9 ∷ [])
+
 -- what a command's line has before the payload, and what behind it
 abbrev pub before : Rules → (at cid : ℕ) → List ℕ
 before rules at cid =

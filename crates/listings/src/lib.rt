@@ -1,5 +1,5 @@
-// The listing of a walk, written into lent memory (RULES: L1 to L9). The text's length is measured first, and then, where there is room for
-// all of it, it is written line by line.
+// The listing of a walk in a frame, written into lent memory (RULES: L1 to L9, L13). The text's length is measured first, and then, where there is
+// room for all of it, it is written line by line.
 use table::Refusal;
 
 mod line;

@@ -25,8 +25,8 @@ ghost use Rattle.walk.specs.Walk.{placed, end, stop};
 ghost use Rattle.text.specs.Characters.{ascii};
 ghost use Rattle.text.specs.Hex.{hexField};
 ghost use Rattle.text.specs.Lines.{line};
-ghost use Rattle.listings.specs.Listing.{channels, letterOf, commandLine, lastLine};
-ghost use Rattle.listings.specs.Passes.{bodyAt, stepLine, before, behind, isCounted, Stands};
+ghost use Rattle.listings.specs.Listing.{channels, letterOf, commandLine, lastLine, inFrame};
+ghost use Rattle.listings.specs.Passes.{bodyAt, stepLine, stamp, before, behind, isCounted, Stands};
 
 fn letter(rules: Rules) -> u8
     ensures { λ r. ⌜ r ∷ [] ≡ ascii (letterOf (rules .direction)) ⌝ }
@@ -63,6 +63,13 @@ fn channels_at(stream: &[u8], body: usize) -> usize
 
 // ---- How long a line is.
 
+// The length of what every line begins with, the frame's number and a tab.
+pub(crate) fn stamp_len(frame: u32) -> usize
+    ensures { λ r. ⌜ r ≡ length (stamp frame) ⌝ }
+{
+    decimal_len(frame as usize) + 1
+}
+
 fn payload_len(len: usize) -> usize
     requires { ⌜ len ≤ 5 ⌝ }
     ensures { λ r. ⌜ r ≡ cond (eqb len 0) 1 (2 * len) ⌝ }
@@ -85,6 +92,7 @@ fn behind_len(rules: Rules, stream: &[u8], at: usize, cid: u8, len: usize) -> us
 fn command_len(rules: Rules, stream: &[u8], at: usize, cid: u8, len: usize) -> usize
     requires { ⌜ Stands rules (now stream) at cid len ⌝ }
     ensures { λ r. ⌜ r ≡ length (line (commandLine rules (placed at cid (bodyAt (now (stream .entry)) at len)))) ⌝ }
+    ensures { λ r. ⌜ r ≤ 57 ⌝ }
 {
     let offset = decimal_len(at);
     let name = name_len(rules, cid);
@@ -94,10 +102,11 @@ fn command_len(rules: Rules, stream: &[u8], at: usize, cid: u8, len: usize) -> u
     offset + 7 + name + payload + rest
 }
 
-// The length of the line that a step is listed by.
+// The length of the line that a step is listed by, but for what it begins with. It is small, so that this can be added.
 pub(crate) fn line_len(rules: Rules, stream: &[u8], at: usize, found: Step) -> usize
     requires { ⌜ toldStep found ≡ stepAt (lengthOf rules) (now stream) at ⌝ }
     ensures { λ r. ⌜ r ≡ length (line (stepLine rules (now (stream .entry)) at (toldStep found))) ⌝ }
+    ensures { λ r. ⌜ r ≤ 57 ⌝ }
 {
     match found {
         Step::Command { cid, len, next: _ } => command_len(rules, stream, at, cid, len),
@@ -108,6 +117,14 @@ pub(crate) fn line_len(rules: Rules, stream: &[u8], at: usize, found: Step) -> u
 }
 
 // ---- Its bytes, where there is room for them.
+
+fn put_stamp(out: &mut [u8], to: usize, frame: u32) -> usize
+    requires { ⌜ to + length (stamp frame) ≤ length (now out) ⌝ }
+    ensures { λ r. ⌜ (r, now (out .exit)) ≡ writtenAt (now (out .entry)) to (stamp frame) ⌝ }
+{
+    let a = put_decimal(out, to, frame as usize);
+    put_byte(out, a, b'\t')
+}
 
 fn put_before(rules: Rules, out: &mut [u8], to: usize, at: usize, cid: u8) -> usize
     requires { ⌜ to + length (before rules at cid) ≤ length (now out) ⌝ }
@@ -198,6 +215,7 @@ fn put_stop(out: &mut [u8], to: usize, at: usize, number: u8) -> usize
 // Writes the line that a step is listed by, and answers the offset behind it.
 pub(crate) fn put_line(
     rules: Rules,
+    frame: u32,
     out: &mut [u8],
     to: usize,
     stream: &[u8],
@@ -205,13 +223,14 @@ pub(crate) fn put_line(
     found: Step,
 ) -> usize
     requires { ⌜ toldStep found ≡ stepAt (lengthOf rules) (now stream) at ⌝ }
-    requires { ⌜ to + length (line (stepLine rules (now stream) at (toldStep found))) ≤ length (now out) ⌝ }
-    ensures { λ r. ⌜ (r, now (out .exit)) ≡ writtenAt (now (out .entry)) to (line (stepLine rules (now (stream .entry)) at (toldStep found))) ⌝ }
+    requires { ⌜ to + length (line (inFrame frame (stepLine rules (now stream) at (toldStep found)))) ≤ length (now out) ⌝ }
+    ensures { λ r. ⌜ (r, now (out .exit)) ≡ writtenAt (now (out .entry)) to (line (inFrame frame (stepLine rules (now (stream .entry)) at (toldStep found)))) ⌝ }
 {
+    let a = put_stamp(out, to, frame);
     match found {
-        Step::Command { cid, len, next: _ } => put_command(rules, out, to, stream, at, cid, len),
-        Step::End => put_end(out, to, at),
-        Step::Stop { reason, at: _ } => put_stop(out, to, at, reason.number()),
-        Step::Refused(_) => put_end(out, to, at),
+        Step::Command { cid, len, next: _ } => put_command(rules, out, a, stream, at, cid, len),
+        Step::End => put_end(out, a, at),
+        Step::Stop { reason, at: _ } => put_stop(out, a, at, reason.number()),
+        Step::Refused(_) => put_end(out, a, at),
     }
 }

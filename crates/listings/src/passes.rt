@@ -2,6 +2,7 @@
 use crate::ListingAnswer;
 use crate::line::line_len;
 use crate::line::put_line;
+use crate::line::stamp_len;
 use table::Refusal;
 use table::Rules;
 use walk::Step;
@@ -14,14 +15,15 @@ ghost use Rattle.listings.specs.Into.{largest, lengthWithin, into};
 ghost use Rattle.listings.specs.Listing.{listingOf};
 ghost use Rattle.listings.specs.Told.{toldListing};
 
-fn measure(rules: Rules, stream: &[u8], room: usize) -> ListingAnswer
-    ensures { λ r. ⌜ toldListing r ≡ lengthWithin room (listingOf rules (now (stream .entry))) ⌝ }
+fn measure(rules: Rules, frame: u32, stream: &[u8], room: usize) -> ListingAnswer
+    ensures { λ r. ⌜ toldListing r ≡ lengthWithin room (listingOf rules frame (now (stream .entry))) ⌝ }
 {
+    let stamp = stamp_len(frame);
     let mut at: usize = 0;
     let mut sum: usize = 0;
     loop {
         let found = step_at(rules, stream, at);
-        let len = line_len(rules, stream, at, found);
+        let len = stamp + line_len(rules, stream, at, found);
         if room - sum < len {
             break ListingAnswer::Refused(Refusal::BufferTooShort);
         }
@@ -42,15 +44,15 @@ fn measure(rules: Rules, stream: &[u8], room: usize) -> ListingAnswer
 }
 
 // Line by line, from the front of memory that has room for all of them. Answers the offset behind the text.
-fn write_lines(rules: Rules, stream: &[u8], out: &mut [u8]) -> usize
-    requires { ⌜ length (listingOf rules (now stream)) ≤ length (now out) ⌝ }
-    ensures { λ r. ⌜ (r, now (out .exit)) ≡ writtenAt (now (out .entry)) 0 (listingOf rules (now (stream .entry))) ⌝ }
+fn write_lines(rules: Rules, frame: u32, stream: &[u8], out: &mut [u8]) -> usize
+    requires { ⌜ length (listingOf rules frame (now stream)) ≤ length (now out) ⌝ }
+    ensures { λ r. ⌜ (r, now (out .exit)) ≡ writtenAt (now (out .entry)) 0 (listingOf rules frame (now (stream .entry))) ⌝ }
 {
     let mut at: usize = 0;
     let mut to: usize = 0;
     loop {
         let found = step_at(rules, stream, at);
-        to = put_line(rules, out, to, stream, at, found);
+        to = put_line(rules, frame, out, to, stream, at, found);
         match found {
             Step::Command {
                 cid: _,
@@ -66,22 +68,23 @@ fn write_lines(rules: Rules, stream: &[u8], out: &mut [u8]) -> usize
     }
 }
 
-// The length of the listing of a stream, to size a buffer by. Of a text that is too long for any buffer it is a refusal.
-pub fn listing_len(rules: Rules, stream: &[u8]) -> ListingAnswer
-    ensures { λ r. ⌜ toldListing r ≡ lengthWithin largest (listingOf rules (now (stream .entry))) ⌝ }
+// The length of the listing of a stream in a frame, to size a buffer by. Of a text that is too long for any buffer it is a refusal.
+pub fn listing_len(rules: Rules, frame: u32, stream: &[u8]) -> ListingAnswer
+    ensures { λ r. ⌜ toldListing r ≡ lengthWithin largest (listingOf rules frame (now (stream .entry))) ⌝ }
 {
-    measure(rules, stream, usize::MAX)
+    measure(rules, frame, stream, usize::MAX)
 }
 
-// Writes the listing of a stream at the front of lent memory, and answers its length. Where there is no room for all of it, nothing is written.
-pub fn write_listing(rules: Rules, stream: &[u8], out: &mut [u8]) -> ListingAnswer
-    ensures { λ r. ⌜ (toldListing r, now (out .exit)) ≡ into (listingOf rules (now (stream .entry))) (now (out .entry)) ⌝ }
+// Writes the listing of a stream in a frame at the front of lent memory, and answers its length. Where there is no room for all of it, nothing is
+// written.
+pub fn write_listing(rules: Rules, frame: u32, stream: &[u8], out: &mut [u8]) -> ListingAnswer
+    ensures { λ r. ⌜ (toldListing r, now (out .exit)) ≡ into (listingOf rules frame (now (stream .entry))) (now (out .entry)) ⌝ }
 {
-    let measured = measure(rules, stream, out.len());
+    let measured = measure(rules, frame, stream, out.len());
     match measured {
         ListingAnswer::Refused(reason) => ListingAnswer::Refused(reason),
         ListingAnswer::Total(_) => {
-            let total = write_lines(rules, stream, out);
+            let total = write_lines(rules, frame, stream, out);
             ListingAnswer::Total(total)
         }
     }

@@ -47,7 +47,7 @@ returns c =
     let q = c .before .before .name-len .ensures in
     let t = c .behind-len .ensures in
     let r = c .before .payload-len .ensures ∙ ap (λ (n : ℕ). cond (eqb n 0) 1 (2 * n)) (sym (body-long (a .stream .now) (a .at) (a .len) (i .pre .fits))) ∙ sym (field-long (bodyAt (a .stream .now) (a .at) (a .len))) in
-    omega (arith, command-long (a .rules) (a .at) (a .cid) (bodyAt (a .stream .now) (a .at) (a .len)))
+    (omega (arith, command-long (a .rules) (a .at) (a .cid) (bodyAt (a .stream .now) (a .at) (a .len))), omega (arith, few c))
 
 pub command-len-spec : {M : Type 1} → statement M
 command-len-spec =

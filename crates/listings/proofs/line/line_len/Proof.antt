@@ -41,36 +41,42 @@ add-result c = let e = c .decimal-len .ensures in omega (arith, few (c .before .
 add-result-2 : tie.Need-add-result-2
 add-result-2 c = let e = c .decimal-len2 .ensures in omega (arith, few (c .before .before .before .before .before))
 
+number-few : (c : tie.After-decimal-len3) → length (decimal (c .before .number .result)) ≤ 20
+number-few c = digits-few (c .before .number .result) (let f = c .before .number .ok in omega arith)
+
 add-result-3 : tie.Need-add-result-3
 add-result-3 c =
     let e = c .before .before .decimal-len2 .ensures in
     let l = c .decimal-len3 .ensures in
-    omega (arith, few (c .before .before .before .before .before .before .before), digits-few (c .before .number .result) (let f = c .before .number .ok in omega arith))
+    omega (arith, few (c .before .before .before .before .before .before .before), number-few c)
 
 add-result-4 : tie.Need-add-result-4
 add-result-4 c = let e = c .decimal-len4 .ensures in omega (arith, few (c .before .before .before .before))
 
 returns : tie.Need-returns
-returns c = known-long (c .before .before .before .before .before) (c .before .before .found .given .1) (c .command-len .ensures)
+returns c = (known-long (c .before .before .before .before .before) (c .before .before .found .given .1) (c .command-len .ensures .0), c .command-len .ensures .1)
 
 returns-2 : tie.Need-returns-2
 returns-2 c =
     let i = c .before .before .before .before in
     let e = c .decimal-len .ensures in
-    known-long i (c .before .enum-told .given .1) (omega (arith, end-long (i .args .at)))
+    (known-long i (c .before .enum-told .given .1) (omega (arith, end-long (i .args .at))), omega (arith, few i))
 
 returns-3 : tie.Need-returns-3
 returns-3 c =
     let i = c .before .before .before .before .before .before .before in
     let e = c .before .before .decimal-len2 .ensures in
-    ap (λ (n : ℕ). n + 7 + c .decimal-len3 .result) e
-    ∙ stop-known i (c .before .before .before .before .found2 .given .1) (c .decimal-len3 .ensures ∙ ap (λ (n : ℕ). length (decimal n)) (c .before .number .ensures))
+    let l = c .decimal-len3 .ensures in (
+      ap (λ (n : ℕ). n + 7 + c .decimal-len3 .result) e
+          ∙ stop-known i (c .before .before .before .before .found2 .given .1) (l ∙ ap (λ (n : ℕ). length (decimal n)) (c .before .number .ensures)),
+      omega (arith, few i, number-few c),
+    )
 
 returns-4 : tie.Need-returns-4
 returns-4 c =
     let i = c .before .before .before .before in
     let e = c .decimal-len4 .ensures in
-    known-long i (c .before .enum-told2 .given .1) (omega (arith, end-long (i .args .at)))
+    (known-long i (c .before .enum-told2 .given .1) (omega (arith, end-long (i .args .at))), omega (arith, few i))
 
 pub line-len-spec : {M : Type 1} → statement M
 line-len-spec =

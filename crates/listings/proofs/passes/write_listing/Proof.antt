@@ -12,14 +12,14 @@ write-lines-requires c κs =
     let k = c .before in
     let n = k .before .before in
     let a = n .before .before .before .args in
-    fits-of (listingOf (a .rules) (a .stream .now)) (a .out .now) (n .measure .ensures) (ap toldListing (k .enum-told .given .1))
+    fits-of (listingOf (a .rules) (a .frame) (a .stream .now)) (a .out .now) (n .measure .ensures) (ap toldListing (k .enum-told .given .1))
 
 returns : tie.Need-returns
 returns c =
     let k = c .before in
     let n = k .before .before in
     let a = n .before .before .before .args in
-    into-refused (listingOf (a .rules) (a .stream .now)) (a .out .now) (n .measure .ensures) (ap toldListing (k .measured .given .1))
+    into-refused (listingOf (a .rules) (a .frame) (a .stream .now)) (a .out .now) (n .measure .ensures) (ap toldListing (k .measured .given .1))
 
 returns-2 : tie.Need-returns-2
 returns-2 c =
@@ -27,8 +27,8 @@ returns-2 c =
     let k = p .before .before in
     let n = k .before .before in
     let a = n .before .before .before .args in
-    into-written (listingOf (a .rules) (a .stream .now)) (a .out .now)
-    (fits-of (listingOf (a .rules) (a .stream .now)) (a .out .now) (n .measure .ensures) (ap toldListing (k .enum-told .given .1)))
+    into-written (listingOf (a .rules) (a .frame) (a .stream .now)) (a .out .now)
+    (fits-of (listingOf (a .rules) (a .frame) (a .stream .now)) (a .out .now) (n .measure .ensures) (ap toldListing (k .enum-told .given .1)))
     (p .write-lines .ensures)
 
 pub write-listing-spec : {M : Type 1} → statement M
