@@ -1,4 +1,4 @@
--- When two lists of commands are equal (RULES: D3, B4): each CID, each length and each payload is. What stands behind the payload in a
+-- When two lists of commands are equal (RULES: D3f, B4, B5): each CID, each length and each payload is. What stands behind the payload in a
 -- record's five bytes, its frame and its offset don't count.
 use mathlib.Core.List.{List, [], _∷_}
 use mathlib.Core.Path.{_≡_}

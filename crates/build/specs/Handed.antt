@@ -4,7 +4,7 @@ use mathlib.Core.List.{List, map}
 use Rattle.table.specs.Answers.{Answer, given, refused}
 use Rattle.payloads.specs.Commands.{inFive}
 use Rattle.walk.specs.Step.{Found, ended, command, stopped, Heading, foundAt, stepAt}
-use Rattle.walk.specs.Walk.{Rule, Cmd, Placed, walkOf}
+use Rattle.walk.specs.Walk.{Rule, Cmd, Placed}
 use Rattle.build.specs.Records.{Rec, ofPayload, stamped, noRecord}
 use Rattle.build.specs.declared.record.Record.{Record}
 
@@ -16,11 +16,11 @@ recOf c = ofPayload (c .cid) (inFive (c .body))
 abbrev pub fromFrame : (frame : ℕ) → Placed → Record
 fromFrame frame p = stamped frame (p .at) (recOf (p .cmd))
 
--- of all commands of a stream: the frame number stamps the walk's list
-abbrev pub recordsOf : Rule → (frame : ℕ) → List ℕ → List Record
-recordsOf L frame s = map (fromFrame frame) (walkOf L s .cmds)
+-- of a walk's list, which the frame number stamps
+abbrev pub recordsOf : (frame : ℕ) → List Placed → List Record
+recordsOf frame ps = map (fromFrame frame) ps
 
--- of what a step found at an offset: where that is no command, the record of none
+-- of what a step found at an offset: where that is no command, the record of no command
 abbrev pub recordFound : (frame at : ℕ) → Answer (Found Cmd) → Record
 recordFound frame at (given (command c next)) = fromFrame frame (record { at = at; cmd = c })
 recordFound frame at (given ended) = noRecord

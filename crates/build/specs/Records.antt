@@ -66,6 +66,7 @@ stamped frame offset r = record { cid = r .cid; payload = r .bytes; frame = fram
 abbrev pub frameless : Rec → Record
 frameless r = stamped 0 0 r
 
+-- of no command: no row of the table has CID 0
 abbrev pub noRecord : Record
 noRecord = frameless (record { cid = 0; len = 0; bytes = replicate 5 0 })
 

@@ -1,4 +1,4 @@
-// Commands as records: those that a walk hands out, and building: their total, and their bytes in order.
+// Commands as records: those that a walk hands out, and what is built of any, the total and the bytes in order.
 pub mod handed;
 pub mod packed;
 pub mod record;

@@ -8,9 +8,10 @@ use payloads::PayloadBytes;
 use payloads::UplinkMacCommand;
 ghost use mathlib.Core.Path.{_≡_};
 ghost use Prim.Native.Nat.{_≤_};
-ghost use Rattle.payloads.specs.Commands.{uplinkEntry, uplinkBytes, downlinkEntry, downlinkBytes, inFive};
+ghost use Rattle.walk.specs.Command.{uplinkCmd, downlinkCmd};
 ghost use Rattle.creators.specs.Kinds as Kinds;
 ghost use Rattle.creators.specs.Kinds.{toldImage};
+ghost use Rattle.build.specs.Handed.{recOf};
 ghost use Rattle.build.specs.Records.{frameless, ofPayload, ofImage};
 
 fn of_payload(cid: u8, payload: PayloadBytes) -> Record
@@ -32,13 +33,13 @@ fn of_image(image: Image) -> Record
 
 impl Record {
     pub fn of_uplink(command: UplinkMacCommand) -> Record
-        ensures { λ r. ⌜ r ≡ frameless (ofPayload (uplinkEntry command .cid) (inFive (uplinkBytes command))) ⌝ }
+        ensures { λ r. ⌜ r ≡ frameless (recOf (uplinkCmd command)) ⌝ }
     {
         of_payload(command.cid(), command.bytes())
     }
 
     pub fn of_downlink(command: DownlinkMacCommand) -> Record
-        ensures { λ r. ⌜ r ≡ frameless (ofPayload (downlinkEntry command .cid) (inFive (downlinkBytes command))) ⌝ }
+        ensures { λ r. ⌜ r ≡ frameless (recOf (downlinkCmd command)) ⌝ }
     {
         of_payload(command.cid(), command.bytes())
     }

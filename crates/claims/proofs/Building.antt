@@ -9,14 +9,13 @@ use lib.Dec.{leb}
 use lib.ListN.{length, take, drop}
 use lib.Seq.{take-append-seam}
 use borrow.Author.Tests.{le-leb, lt-leb}
-use denote.Ref.{now}
 use Rattle.bits.specs.Every.{Every}
 use Rattle.bits.specs.Memory.{over}
 use Rattle.table.specs.Table.{lengthOf}
 use Rattle.table.specs.declared.rules.Rules.{Rules}
 use Rattle.table.proofs.Lengths.{at-most-five}
 use Rattle.walk.specs.Walk.{Rule, Cmd, Walk, end, encode, place, walkOf}
-use Rattle.build.specs.Records.{Item, whole, part, cmdsOf}
+use Rattle.build.specs.Records.{Item, whole, part, cmdsOf, slotsOf}
 use Rattle.build.specs.Build.{Built, total, refusedAt, refused, totalOf, fill, buildOf}
 use Rattle.build.specs.ThereAndBack.{Commands, Full}
 use Rattle.build.specs.declared.record.Record.{Record}
@@ -24,7 +23,7 @@ use Rattle.build.proofs.Equal.{its-commands-are}
 use Rattle.build.proofs.Slots.{slots-full}
 use Rattle.build.proofs.ThereAndBack as ThereAndBack
 use Rattle.lent.specs.Records.{itemsOf}
-use Rattle.claims.specs.Building.{Five, Builder, FromSlots, FromStructs, FromFour, LenOfSlots, LenOfStructs, asked-length, IsRefusal, StandsFor, RefusedKeeps, BuiltReadsBack, AcceptsExactly, SameBytesSameList, LengthAgrees, same, no-room, LengthForBuild, BuildsAsDefined, RightBuild, Builds}
+use Rattle.claims.specs.Building.{Five, Builder, SlotsBuilt, StructsBuilt, FourBuilt, SlotsLength, StructsLength, FromSlots, from-slots, FromStructs, from-structs, FromFour, from-four, LenOfSlots, of-slots, LenOfStructs, of-structs, IsRefusal, StandsFor, RefusedKeeps, BuiltReadsBack, AcceptsExactly, SameBytesSameList, LengthAgrees, same, no-room, LengthForBuild, BuildsAsDefined, RightBuild, Builds}
 use Rattle.claims.specs.Building as Building
 use Rattle.claims.specs.Handing.{ReadAs}
 use Rattle.claims.proofs.ByHand.{by-hand}
@@ -41,23 +40,33 @@ full-five rules (r ∷ rs) f = (
   full-five rules rs (f .1),
 )
 
+-- what the contract of each says
+pub slots-say : (rules : Rules) (slots before after : List ℕ) (a : Built) → SlotsBuilt rules slots before a after
+    → _≡_ {A = Built × List ℕ} (a, after) (buildOf (lengthOf rules) (slotsOf slots) before)
+slots-say rules _ _ _ _ (Building.built slots out r after g) = ap (λ (o : List ℕ). (_, o)) (sym (g .1 .1 .1)) ∙ g .1 .1 .0
+
+pub structs-say : (rules : Rules) (records : List Record) (before after : List ℕ) (a : Built) → StructsBuilt rules records before a after
+    → _≡_ {A = Built × List ℕ} (a, after) (buildOf (lengthOf rules) (itemsOf records) before)
+structs-say rules _ _ _ _ (Building.built records out r κs exit q) = by-hand .build-records κs rules records out r exit .0 q
+
+pub four-says : (rules : Rules) (records : List Record) (before after : List ℕ) (a : Built) → FourBuilt rules records before a after
+    → _≡_ {A = Built × List ℕ} (a, after) (buildOf (lengthOf rules) (itemsOf records) before)
+four-says rules _ _ _ _ (Building.built records out r κs exit q) = by-hand .build-four κs rules records out r exit .0 q
+
+pub slots-length-says : (rules : Rules) (slots : List ℕ) (a : Built) → SlotsLength rules slots a → a ≡ totalOf (lengthOf rules) (slotsOf slots)
+slots-length-says rules _ _ (Building.asked slots r g) = g .1 .1
+
+pub structs-length-says : (rules : Rules) (records : List Record) (a : Built) → StructsLength rules records a → a ≡ totalOf (lengthOf rules) (itemsOf records)
+structs-length-says rules _ _ (Building.asked records r κs exit q) = by-hand .records-len κs rules records r exit .0 q
+
 pub slots-defined : BuildsAsDefined FromSlots
-slots-defined rules _ _ _ _ (Building.built slots out r after g) = record {
-  says = ap (λ (o : List ℕ). (_, o)) (sym (g .1 .1 .1)) ∙ g .1 .1 .0;
-  full = slots-full rules (now slots);
-}
+slots-defined rules _ before after a (from-slots slots b) = record { says = slots-say rules slots before after a b; full = slots-full rules slots }
 
 pub structs-defined : BuildsAsDefined FromStructs
-structs-defined rules _ _ _ _ (Building.built records out r κs exit f q) = record {
-  says = by-hand .build-records κs rules records out r exit .0 q;
-  full = full-five rules (now records) f;
-}
+structs-defined rules _ before after a (from-structs records f b) = record { says = structs-say rules records before after a b; full = full-five rules records f }
 
 four-defined : BuildsAsDefined FromFour
-four-defined rules _ _ _ _ (Building.built records out r κs exit f q) = record {
-  says = by-hand .build-four κs rules records out r exit .0 q;
-  full = full-five rules records f;
-}
+four-defined rules _ before after a (from-four records f b) = record { says = four-says rules records before after a b; full = full-five rules records f }
 
 -- ---- the claims, of any build that does
 
@@ -167,11 +176,11 @@ length-for-build Len len B d rules xs before after l a x b =
     ap (λ x. x .0) (d rules xs before after a b .says) ∙ ap (λ (t : Built). fill t (encode (cmdsOf xs)) before .0) (sym (len rules xs l x)) in
     subst (LengthAgrees l (length before)) (sym e) (agrees l (encode (cmdsOf xs)) before)
 
-pub len-slots : (rules : Rules) (xs : List Item) (l : Built) → LenOfSlots rules xs l → l ≡ totalOf (lengthOf rules) xs
-len-slots rules _ _ (asked-length slots r g) = g .1 .1
+len-slots : (rules : Rules) (xs : List Item) (l : Built) → LenOfSlots rules xs l → l ≡ totalOf (lengthOf rules) xs
+len-slots rules _ l (of-slots slots x) = slots-length-says rules slots l x
 
 len-structs : (rules : Rules) (xs : List Item) (l : Built) → LenOfStructs rules xs l → l ≡ totalOf (lengthOf rules) xs
-len-structs rules _ _ (asked-length records r κs exit q) = by-hand .records-len κs rules records r exit .0 q
+len-structs rules _ l (of-structs records x) = structs-length-says rules records l x
 
 pub keeps-slots : RefusedKeeps FromSlots
 keeps-slots = refused-keeps FromSlots slots-defined

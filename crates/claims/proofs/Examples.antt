@@ -74,7 +74,7 @@ rule DlChannelAns = DlChannelAns·accepts
 abbrev Means : Example → Type 0
 Means (reads d bytes cmds ending) = walkOf (lengthOf (record { direction = d })) bytes ≡ record { cmds = cmds; ending = ending }
 Means (hands d frame bytes records ending) =
-    (recordsOf (lengthOf (record { direction = d })) frame bytes ≡ records) × (walkOf (lengthOf (record { direction = d })) bytes .ending ≡ ending)
+    (recordsOf frame (walkOf (lengthOf (record { direction = d })) bytes .cmds) ≡ records) × (walkOf (lengthOf (record { direction = d })) bytes .ending ≡ ending)
 Means (frequency bytes hz) = (exactly 3 bytes ≡ given bytes) × (hertz bytes ≡ hz)
 Means (margin-reads b m) = (battery : ℕ) → marginOf (battery ∷ b ∷ []) ≡ m
 Means (no-margin m) = (image : List ℕ) → marginAt image m ≡ (refused 9, image)
@@ -113,7 +113,7 @@ of-functions (hands d frame bytes records ending) e = λ stream same.
     let L = lengthOf rules in
     record {
       cmds = walkOf L (now stream) .cmds;
-      same = ap (recordsOf L frame) same ∙ e .0;
+      same = ap (λ (s : List ℕ). recordsOf frame (walkOf L s .cmds)) same ∙ e .0;
       by-offsets = subst (HandsOutRecords (recordSteps rules frame stream) frame (walkOf L (now stream) .cmds)) (ap (λ (s : List ℕ). walkOf L s .ending) same ∙ e .1) (steps-hand-out rules stream frame);
       by-iterator = subst (HandsOutRecords (recordIterator rules frame stream) frame (walkOf L (now stream) .cmds)) (ap (λ (s : List ℕ). walkOf L s .ending) same ∙ e .1) (iterator-hands-out rules stream frame);
     }

@@ -1,24 +1,31 @@
 -- Where a command came from: crates/claims/specs/Origins.antt. Assumes nothing.
-use Prim.Native.Nat.{ℕ, _+_}
+use Prim.Native.Nat.{ℕ, _+_, _≤_}
 use mathlib.Core.List.{List, [], _∷_, _++_, map, map-append}
 use mathlib.Core.Path.{_≡_, refl, sym, ap, _∙_, subst}
 use native.Mathlib.Omega.{arith}
+use lib.ListN.{length}
+use lib.Seq.{take-length}
 use denote.Ref.{RefT, now}
-use Rattle.table.specs.Answers.{Answer, given, refused}
+use Rattle.bits.specs.Every.{Every}
+use Rattle.table.specs.Answers.{Answer, given}
 use Rattle.table.specs.Table.{lengthOf}
 use Rattle.table.specs.declared.rules.Rules.{Rules}
+use Rattle.table.proofs.Lengths.{at-most-five}
 use Rattle.walk.specs.Ownership.{offsetOf}
-use Rattle.walk.specs.Step.{Found, ended, command, stopped, Heading, firstOf, inNumbers}
-use Rattle.walk.specs.Walk.{Rule, Cmd, Placed, Ending, end, stop, size, walkOf}
+use Rattle.walk.specs.Step.{Found, command, Heading, firstOf, inNumbers}
+use Rattle.walk.specs.Walk.{Rule, Cmd, Placed, Ending, end, stop, WellFormed, size, bare, walkOf}
+use Rattle.walk.proofs.Ownership.{every-byte-owned}
 use Rattle.walk.proofs.Told.{step-tells}
-use Rattle.build.specs.Build.{Built, totalOf, buildOf}
-use Rattle.build.specs.Equal.{EqualLists}
-use Rattle.build.specs.Handed.{fromFrame, recordFound, handedAt}
-use Rattle.build.specs.Records.{heldBy, packedAt, slotsOf}
+use Rattle.build.specs.Build.{Built, buildOf}
+use Rattle.build.specs.Equal.{EqualLists, asRec}
+use Rattle.build.specs.Handed.{fromFrame, recordsOf, recordFound, handedAt}
+use Rattle.build.specs.Records.{Rec, heldBy, frameless, packedAt, slotsOf}
 use Rattle.build.specs.declared.record.Record.{Record}
+use Rattle.build.proofs.AsRecords.{five-front}
 use Rattle.build.proofs.Equal.{equal-self, equal-lists-built-alike}
 use Rattle.lent.specs.Records.{itemsOf}
 use Rattle.lent.proofs.Packing.{answers-as-packed}
+use Rattle.claims.specs.Building.{SlotsBuilt, StructsBuilt, FourBuilt}
 use Rattle.claims.specs.Handing.{RecordFront, NoCommand, onward, recordSteps, recordIterator}
 use Rattle.claims.specs.Origins.{
   firstRecord,
@@ -28,18 +35,13 @@ use Rattle.claims.specs.Origins.{
   none-handed,
   HandsOutRecords,
   RecordsOfTheWalk,
-  StructsBuilt,
-  FourBuilt,
-  LenAsked,
-  SlotsBuilt,
+  FromNoFrame,
   SameOutcome,
   BuildsAlike,
   PacksAlike,
   OriginsTell,
 }
-use Rattle.claims.specs.Origins as Origins
-use Rattle.claims.proofs.Building.{len-slots}
-use Rattle.claims.proofs.ByHand.{by-hand}
+use Rattle.claims.proofs.Building.{slots-say, structs-say, four-says, slots-length-says, structs-length-says}
 use Rattle.claims.proofs.Handing.{stands-behind, stands-next, found-there, FaithfulRecords, records-faithful, record-iterator-faithful, reads}
 use Rattle.claims.proofs.Keeping.{both}
 
@@ -59,7 +61,26 @@ first-record frame (p ∷ ps) e = refl
 first-record frame [] (end o) = refl
 first-record frame [] (stop n o) = refl
 
-module _ (L : Rule) (s : List ℕ) (frame : ℕ) (F : RecordFront) (f : FaithfulRecords L s frame F) where
+-- what the records of a list say
+frames-of : (frame : ℕ) (ps : List Placed) → Every (λ (r : Record). r .frame ≡ frame) (recordsOf frame ps)
+frames-of frame [] = tt
+frames-of frame (p ∷ ps) = (refl, frames-of frame ps)
+
+offsets-of : (frame : ℕ) (ps : List Placed) → map (λ (r : Record). r .offset) (recordsOf frame ps) ≡ map (λ (p : Placed). p .at) ps
+offsets-of frame [] = refl
+offsets-of frame (p ∷ ps) = ap (λ (l : List ℕ). p .at ∷ l) (offsets-of frame ps)
+
+commands-of : (rules : Rules) (frame : ℕ) (ps : List Placed) → WellFormed (lengthOf rules) (bare ps) → EqualLists (map heldBy (recordsOf frame ps)) (map asRec (bare ps))
+commands-of rules frame [] w = tt
+commands-of rules frame (p ∷ ps) w =
+    let b = p .cmd .body in
+    let short : length (p .cmd .body) ≤ 5 = at-most-five rules (p .cmd .cid) (length (p .cmd .body)) (w .0) in
+    (record { cid = refl; len = refl; payload = five-front b short ∙ sym (take-length b) }, commands-of rules frame ps (w .1))
+
+module _ (rules : Rules) (s : List ℕ) (frame : ℕ) (F : RecordFront) (f : FaithfulRecords (lengthOf rules) s frame F) where
+  abbrev L : Rule
+  L = lengthOf rules
+
   abbrev ending : Ending
   ending = walkOf L s .ending
 
@@ -68,7 +89,7 @@ module _ (L : Rule) (s : List ℕ) (frame : ℕ) (F : RecordFront) (f : Faithful
     pub before : List Placed
     pub coming : List Placed
     pub parted : walkOf L s .cmds ≡ before ++ coming
-    pub handed-out : out ≡ map (fromFrame frame) before
+    pub handed-out : out ≡ recordsOf frame before
     pub stands : F .offset st ≡ offsetOf coming ending
     pub sound : f .Sound st
 
@@ -81,7 +102,7 @@ module _ (L : Rule) (s : List ℕ) (frame : ℕ) (F : RecordFront) (f : Faithful
       ∙ ap (λ (r : Record). (inNumbers (given (firstOf (p .coming) ending)), r)) (first-record frame (p .coming) ending)
 
   moves : {st' : F .State} {out : List Record} (h : Heading) (next : ℕ) (r : Record) (before coming : List Placed) → walkOf L s .cmds ≡ before ++ coming
-      → out ≡ map (fromFrame frame) before → f .Sound st' → F .offset st' ≡ next
+      → out ≡ recordsOf frame before → f .Sound st' → F .offset st' ≡ next
       → _≡_ {A = Answer (Found Heading) × Record} (given (command h next), r) (inNumbers (given (firstOf coming ending)), firstRecord frame coming)
       → Position st' (out ++ (r ∷ []))
   moves h next r before [] e o sound k a = absurd (no-command ending (ap (λ x. x .0) a))
@@ -93,14 +114,14 @@ module _ (L : Rule) (s : List ℕ) (frame : ℕ) (F : RecordFront) (f : Faithful
         before = before ++ (p ∷ []);
         coming = ps;
         parted = n .0;
-        handed-out = ap (λ (l : List Record). l ++ (r ∷ [])) o ∙ ap (λ (x : Record). map (fromFrame frame) before ++ (x ∷ [])) (ap (λ x. x .1) a)
+        handed-out = ap (λ (l : List Record). l ++ (r ∷ [])) o ∙ ap (λ (x : Record). recordsOf frame before ++ (x ∷ [])) (ap (λ x. x .1) a)
             ∙ sym (map-append (fromFrame frame) before (p ∷ []));
         stands = k ∙ next-is ∙ sym (n .1);
         sound = sound;
       }
 
   rests : {st' : F .State} {out : List Record} (a : Answer (Found Heading)) (at : ℕ) (before coming : List Placed) → walkOf L s .cmds ≡ before ++ coming
-      → out ≡ map (fromFrame frame) before → at ≡ offsetOf coming ending → f .Sound st' → F .offset st' ≡ onward a at → NoCommand a
+      → out ≡ recordsOf frame before → at ≡ offsetOf coming ending → f .Sound st' → F .offset st' ≡ onward a at → NoCommand a
       → a ≡ inNumbers (given (firstOf coming ending)) → Position st' out
   rests a at before [] e o k sound m n q = record {
     before = before;
@@ -135,21 +156,26 @@ module _ (L : Rule) (s : List ℕ) (frame : ℕ) (F : RecordFront) (f : Faithful
   hands-out-records : HandsOutRecords F frame (walkOf L s .cmds) (walkOf L s .ending)
   hands-out-records st out c =
       let p = position c in
+      let e = sym (p .handed-out) in
       record {
         before = p .before;
         coming = p .coming;
         parted = p .parted;
         handed-out = p .handed-out;
+        frames = subst (Every (λ (r : Record). r .frame ≡ frame)) e (frames-of frame (p .before));
+        offsets = ap (map (λ (r : Record). r .offset)) (p .handed-out) ∙ offsets-of frame (p .before);
+        commands = subst (λ (l : List Record). EqualLists (map heldBy l) (map asRec (bare (p .before)))) e
+            (commands-of rules frame (p .before) (every-byte-owned L s (p .before) (p .coming) (p .parted) .commands));
         stands = p .stands;
         answered = answered p;
       }
 
 module _ (rules : Rules) (stream : RefT (List ℕ)) (frame : ℕ) where
   pub steps-hand-out : HandsOutRecords (recordSteps rules frame stream) frame (walkOf (lengthOf rules) (now stream) .cmds) (walkOf (lengthOf rules) (now stream) .ending)
-  steps-hand-out = hands-out-records (lengthOf rules) (now stream) frame (recordSteps rules frame stream) (records-faithful rules frame stream)
+  steps-hand-out = hands-out-records rules (now stream) frame (recordSteps rules frame stream) (records-faithful rules frame stream)
 
   pub iterator-hands-out : HandsOutRecords (recordIterator rules frame stream) frame (walkOf (lengthOf rules) (now stream) .cmds) (walkOf (lengthOf rules) (now stream) .ending)
-  iterator-hands-out = hands-out-records (lengthOf rules) (now stream) frame (recordIterator rules frame stream) (record-iterator-faithful rules frame stream)
+  iterator-hands-out = hands-out-records rules (now stream) frame (recordIterator rules frame stream) (record-iterator-faithful rules frame stream)
 
 records-of-the-walk : (rules : Rules) (stream : RefT (List ℕ)) → RecordsOfTheWalk rules stream
 records-of-the-walk rules stream = record {
@@ -161,21 +187,6 @@ records-of-the-walk rules stream = record {
 }
 
 -- ---- in a build
-
-structs-say : (rules : Rules) (rs : List Record) (before after : List ℕ) (a : Built) → StructsBuilt rules rs before a after
-    → _≡_ {A = Built × List ℕ} (a, after) (buildOf (lengthOf rules) (itemsOf rs) before)
-structs-say rules _ _ _ _ (Origins.built records out r κs exit q) = by-hand .build-records κs rules records out r exit .0 q
-
-four-says : (rules : Rules) (rs : List Record) (before after : List ℕ) (a : Built) → FourBuilt rules rs before a after
-    → _≡_ {A = Built × List ℕ} (a, after) (buildOf (lengthOf rules) (itemsOf rs) before)
-four-says rules _ _ _ _ (Origins.built records out r κs exit q) = by-hand .build-four κs rules records out r exit .0 q
-
-slots-say : (rules : Rules) (s before after : List ℕ) (a : Built) → SlotsBuilt rules s before a after
-    → _≡_ {A = Built × List ℕ} (a, after) (buildOf (lengthOf rules) (slotsOf s) before)
-slots-say rules _ _ _ _ (Origins.built slots out r after g) = ap (λ (o : List ℕ). (_, o)) (sym (g .1 .1 .1)) ∙ g .1 .1 .0
-
-structs-length-says : (rules : Rules) (s : RefT (List Record)) (a : Built) → LenAsked rules s a → a ≡ totalOf (lengthOf rules) (itemsOf (now s))
-structs-length-says rules _ _ (Origins.asked records r κs exit q) = by-hand .records-len κs rules records r exit .0 q
 
 -- two that each answer as their definition says, where the definitions agree
 same-outcome : {X : Type 0} (B : X → List ℕ → Built → List ℕ → Type 2) (says : X → List ℕ → Built × List ℕ)
@@ -192,13 +203,14 @@ builds-alike rules rs qs e =
       four = same-outcome (FourBuilt rules) (λ xs. buildOf L (itemsOf xs)) (four-says rules) rs qs (alike .build);
       slots = λ s t p q. same-outcome (SlotsBuilt rules) (λ x. buildOf L (slotsOf x)) (slots-say rules) s t
           (λ out. sym (answers-as-packed rules rs s p .build out) ∙ alike .build out ∙ answers-as-packed rules qs t q .build out);
-      structs-length = λ s t p q a b x y.
-          structs-length-says rules s a x ∙ ap (λ (l : List Record). totalOf L (itemsOf l)) p ∙ alike .len
-          ∙ ap (λ (l : List Record). totalOf L (itemsOf l)) (sym q) ∙ sym (structs-length-says rules t b y);
+      structs-length = λ a b x y. structs-length-says rules rs a x ∙ alike .len ∙ sym (structs-length-says rules qs b y);
       slots-length = λ s t p q a b x y.
-          len-slots rules (slotsOf s) a x ∙ sym (answers-as-packed rules rs s p .len) ∙ alike .len ∙ answers-as-packed rules qs t q .len
-          ∙ sym (len-slots rules (slotsOf t) b y);
+          slots-length-says rules s a x ∙ sym (answers-as-packed rules rs s p .len) ∙ alike .len ∙ answers-as-packed rules qs t q .len
+          ∙ sym (slots-length-says rules t b y);
     }
+
+none-says : (x : Rec) (r : Record) → r ≡ frameless x → FromNoFrame r
+none-says x r e = record { frame = ap (λ (q : Record). q .frame) e; offset = ap (λ (q : Record). q .offset) e }
 
 packs-alike : PacksAlike
 packs-alike r q e s t m i after after' g h =
@@ -208,6 +220,14 @@ pub origins-tell : OriginsTell
 origins-tell = record {
   walked = records-of-the-walk;
   there = λ rules frame stream at r g. record { defined = g .1 .1; its-step = λ q h. step-tells (ap (λ x. x .0) (g .1 .1) ∙ sym (h .1 .1)) };
+  of-no-frame = record {
+    new = λ cid len payload r g. none-says _ r (g .1 .1);
+    none = λ r g. none-says _ r (g .1 .1);
+    of-uplink = λ c r g. none-says _ r (g .1 .1);
+    of-downlink = λ c r g. none-says _ r (g .1 .1);
+    of-uplink-creator = λ c r g. none-says _ r (g .1 .1);
+    of-downlink-creator = λ c r g. none-says _ r (g .1 .1);
+  };
   uncounted = λ rs qs e. subst (EqualLists (map heldBy rs)) e (equal-self (map heldBy rs));
   built-alike = builds-alike;
   packed-alike = packs-alike;

@@ -37,31 +37,49 @@ Five r = length (r .payload) ≡ 5
 abbrev pub Builder : Type 3
 Builder = Rules → List Item → List ℕ → Built → List ℕ → Type 2
 
--- `build_mac_commands`, from packed slots
-pub data FromSlots (rules : Rules) : List Item → List ℕ → Built → List ℕ → Type 2 where
+-- `build_mac_commands`, told by the slots that it was given: over which memory, what may be answered, and the memory then
+pub data SlotsBuilt (rules : Rules) : List ℕ → List ℕ → Built → List ℕ → Type 2 where
   built : (slots out : RefT (List ℕ)) (r : BuildAnswer) (after : List ℕ)
       → GivesWith (λ s. now (s .1 .1 .0)) build-mac-commands.Post (rules, (slots, (out, tt))) r after
-      → FromSlots rules (slotsOf (now slots)) (now out) (toldBuild r) after
+      → SlotsBuilt rules (now slots) (now out) (toldBuild r) after
 
--- `build_records`, from a slice of record structs
-pub data FromStructs (rules : Rules) : List Item → List ℕ → Built → List ℕ → Type 2 where
+-- `build_records`, told by the record structs in its slice
+pub data StructsBuilt (rules : Rules) : List Record → List ℕ → Built → List ℕ → Type 2 where
   built : (records : RefT (List Record)) (out : RefT (List ℕ)) (r : BuildAnswer) (κs : Lfts 2) (exit : Rules × (RefT (List Record) × (RefT (List ℕ) × Unit)))
-      → Every Five (now records) → Admits build-records.ended (λ M 𝓤. build-records.clauses 𝓤) κs (rules, (records, (out, tt))) r exit
-      → FromStructs rules (itemsOf (now records)) (now out) (toldBuild r) (now (exit .1 .1 .0))
+      → Admits build-records.ended (λ M 𝓤. build-records.clauses 𝓤) κs (rules, (records, (out, tt))) r exit
+      → StructsBuilt rules (now records) (now out) (toldBuild r) (now (exit .1 .1 .0))
 
--- `build_four`, from an array of them
-pub data FromFour (rules : Rules) : List Item → List ℕ → Built → List ℕ → Type 2 where
+-- `build_four`, told by those in its array
+pub data FourBuilt (rules : Rules) : List Record → List ℕ → Built → List ℕ → Type 2 where
   built : (records : List Record) (out : RefT (List ℕ)) (r : BuildAnswer) (κs : Lfts 1) (exit : Rules × (List Record × (RefT (List ℕ) × Unit)))
-      → Every Five records → Admits build-four.ended (λ M 𝓤. build-four.clauses 𝓤) κs (rules, (records, (out, tt))) r exit
-      → FromFour rules (itemsOf records) (now out) (toldBuild r) (now (exit .1 .1 .0))
+      → Admits build-four.ended (λ M 𝓤. build-four.clauses 𝓤) κs (rules, (records, (out, tt))) r exit
+      → FourBuilt rules records (now out) (toldBuild r) (now (exit .1 .1 .0))
 
--- `mac_commands_len` and `records_len`: of a list, what may be answered
+-- `mac_commands_len` and `records_len`: what may be answered
+pub data SlotsLength (rules : Rules) : List ℕ → Built → Type 2 where
+  asked : (slots : RefT (List ℕ)) (r : BuildAnswer) → Gives mac-commands-len.Post (rules, (slots, tt)) r → SlotsLength rules (now slots) (toldBuild r)
+
+pub data StructsLength (rules : Rules) : List Record → Built → Type 2 where
+  asked : (records : RefT (List Record)) (r : BuildAnswer) (κs : Lfts 1) (exit : Rules × (RefT (List Record) × Unit))
+      → Admits records-len.ended (λ M 𝓤. records-len.clauses 𝓤) κs (rules, (records, tt)) r exit → StructsLength rules (now records) (toldBuild r)
+
+-- the same, told by the list of items that the slots or the records are
+pub data FromSlots (rules : Rules) : List Item → List ℕ → Built → List ℕ → Type 2 where
+  from-slots : (slots : List ℕ) {before after : List ℕ} {a : Built} → SlotsBuilt rules slots before a after → FromSlots rules (slotsOf slots) before a after
+
+pub data FromStructs (rules : Rules) : List Item → List ℕ → Built → List ℕ → Type 2 where
+  from-structs : (records : List Record) {before after : List ℕ} {a : Built} → Every Five records → StructsBuilt rules records before a after
+      → FromStructs rules (itemsOf records) before a after
+
+pub data FromFour (rules : Rules) : List Item → List ℕ → Built → List ℕ → Type 2 where
+  from-four : (records : List Record) {before after : List ℕ} {a : Built} → Every Five records → FourBuilt rules records before a after
+      → FromFour rules (itemsOf records) before a after
+
 pub data LenOfSlots (rules : Rules) : List Item → Built → Type 2 where
-  asked-length : (slots : RefT (List ℕ)) (r : BuildAnswer) → Gives mac-commands-len.Post (rules, (slots, tt)) r → LenOfSlots rules (slotsOf (now slots)) (toldBuild r)
+  of-slots : (slots : List ℕ) {a : Built} → SlotsLength rules slots a → LenOfSlots rules (slotsOf slots) a
 
 pub data LenOfStructs (rules : Rules) : List Item → Built → Type 2 where
-  asked-length : (records : RefT (List Record)) (r : BuildAnswer) (κs : Lfts 1) (exit : Rules × (RefT (List Record) × Unit))
-      → Admits records-len.ended (λ M 𝓤. records-len.clauses 𝓤) κs (rules, (records, tt)) r exit → LenOfStructs rules (itemsOf (now records)) (toldBuild r)
+  of-structs : (records : List Record) {a : Built} → StructsLength rules records a → LenOfStructs rules (itemsOf records) a
 
 -- ---- what is claimed of each
 

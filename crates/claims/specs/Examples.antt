@@ -1,7 +1,7 @@
 -- The examples of RULES, P1 to P15 and P17, as one list. Each holds of every outcome that the contracts of the functions that it names admit.
 use Prim.Native.Nat.{ℕ}
 use mathlib.Core.Bool.{Bool, true, false}
-use mathlib.Core.List.{List, [], _∷_, _++_, map}
+use mathlib.Core.List.{List, [], _∷_, _++_}
 use mathlib.Core.Path.{_≡_}
 use lib.IntN.{ℤ, pos, negℤ}
 use denote.Ref.{RefT, now}
@@ -24,7 +24,7 @@ use Rattle.creators.specs.declared.device_time.DeviceTimeAnsCreatorAnswer.{Devi
 use Rattle.creators.specs.declared.tx_param_setup.TXParamSetupReqCreator.{TXParamSetupReqCreator}
 use Rattle.creators.specs.declared.tx_param_setup.TXParamSetupReqCreatorAnswer.{TXParamSetupReqCreatorAnswer}
 use Rattle.walk.specs.Walk.{Placed, placed, Ending, end, stop}
-use Rattle.build.specs.Handed.{fromFrame}
+use Rattle.build.specs.Handed.{recordsOf}
 use Rattle.build.specs.Records.{frameless, slotsOf}
 use Rattle.build.specs.Build.{Built, total}
 use Rattle.build.specs.Build as Build
@@ -90,7 +90,7 @@ pub data Example : Type 0 where
 -- these records are handed out, by either entry, and then this ending
 pub record HandedOut (rules : Rules) (frame : ℕ) (stream : RefT (List ℕ)) (records : List Record) (ending : Ending) : Type 2 where
   pub cmds : List Placed
-  pub same : map (fromFrame frame) cmds ≡ records
+  pub same : recordsOf frame cmds ≡ records
   pub by-offsets : HandsOutRecords (recordSteps rules frame stream) frame cmds ending
   pub by-iterator : HandsOutRecords (recordIterator rules frame stream) frame cmds ending
 
