@@ -38,5 +38,5 @@ pub record Demands : Type 2 where
   pub by-hand : ByHand
   -- C1 to C4: where in a frame the commands are
   pub chooser : Lifted Chooser
-  -- L1 to L9 and L11: the listing says what is read
+  -- L1 to L9, L11 and L13: the listing says what is read
   pub listings-tell : ListingsTell

@@ -39,7 +39,7 @@ use Rattle.claims.specs.Outcomes.{Gives, GivesWith}
 
 -- ---- along the walk
 
--- the record of the first of these commands, or that of none
+-- the record of the first of these commands, or that of no command
 abbrev pub firstRecord : (frame : ℕ) → List Placed → Record
 firstRecord frame [] = noRecord
 firstRecord frame (p ∷ ps) = fromFrame frame p

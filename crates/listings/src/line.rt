@@ -38,7 +38,7 @@ fn letter(rules: Rules) -> u8
     }
 }
 
-// Whether a command is LinkADRReq, which alone has a sixth field (RULES: L4).
+// Whether a command is LinkADRReq, which alone has one field more (RULES: L4).
 fn is_counted(rules: Rules, cid: u8) -> bool
     ensures { λ r. ⌜ r ≡ isCounted rules cid ⌝ }
 {
@@ -102,7 +102,7 @@ fn command_len(rules: Rules, stream: &[u8], at: usize, cid: u8, len: usize) -> u
     offset + 7 + name + payload + rest
 }
 
-// The length of the line that a step is listed by, but for what it begins with. It is small, so that this can be added.
+// The length of the line that a step is listed by, but for what it begins with, whose length the caller adds: both are small.
 pub(crate) fn line_len(rules: Rules, stream: &[u8], at: usize, found: Step) -> usize
     requires { ⌜ toldStep found ≡ stepAt (lengthOf rules) (now stream) at ⌝ }
     ensures { λ r. ⌜ r ≡ length (line (stepLine rules (now (stream .entry)) at (toldStep found))) ⌝ }
