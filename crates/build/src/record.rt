@@ -2,12 +2,14 @@ use table::Length;
 use table::Refusal;
 use table::Rules;
 ghost use mathlib.Core.Path.{_≡_};
-ghost use Prim.Native.Nat.{_+_, _≤_};
+ghost use mathlib.Core.Option.{some};
+ghost use Prim.Native.Nat.{ℕ, _+_, _≤_};
 ghost use lib.ListN.{length, take};
 ghost use lib.Seq.{paste};
 ghost use Rattle.bits.specs.Memory.{writtenAt};
 ghost use Rattle.table.specs.Table.{lengthOf};
-ghost use Rattle.build.specs.Records.{judged, heldBy, frameless, commandBytes, packedAt, lenByte, noRecord};
+ghost use Rattle.table.specs.Told.{toldLength};
+ghost use Rattle.build.specs.Records.{measured as measuredBy, judged, heldBy, frameless, commandBytes, packedAt, lenByte, noRecord};
 ghost use Rattle.build.specs.Laying.{LaidAt};
 ghost use Rattle.build.specs.Told.{toldJudged};
 
@@ -51,18 +53,8 @@ impl Record {
     pub fn judge(self, rules: Rules) -> Judged
         ensures { λ r. ⌜ toldJudged r ≡ judged (lengthOf rules) (heldBy self) ⌝ }
     {
-        let len = self.len;
         let length = rules.payload_len(self.cid);
-        match length {
-            Length::Unknown => Judged::Refused(Refusal::UnknownMacCommand),
-            Length::Known(n) => {
-                if len == n {
-                    Judged::Size(1 + n)
-                } else {
-                    Judged::Refused(Refusal::WrongLength)
-                }
-            }
-        }
+        measured(length, self.len)
     }
 
     // The payload bytes that count: those before the length.
@@ -122,6 +114,23 @@ impl Record {
             let p = self.payload;
             let bytes = [self.cid, n, p[0], p[1], p[2], p[3], p[4]];
             copy(&bytes, 7, slots, at);
+        }
+    }
+}
+
+// A record's length, held against what the table says of its CID, which is five bytes at most.
+fn measured(length: Length, len: usize) -> Judged
+    requires { ⌜ ((n : ℕ) → toldLength length ≡ some n → n ≤ 5) ⌝ }
+    ensures { λ r. ⌜ toldJudged r ≡ measuredBy (toldLength length) len ⌝ }
+{
+    match length {
+        Length::Unknown => Judged::Refused(Refusal::UnknownMacCommand),
+        Length::Known(n) => {
+            if len == n {
+                Judged::Size(1 + n)
+            } else {
+                Judged::Refused(Refusal::WrongLength)
+            }
         }
     }
 }
