@@ -3,21 +3,18 @@ use Prim.Native.Nat.{ℕ, _+_, _-_, _<_, _≤_}
 use mathlib.Core.List.{List, [], _++_, map, append-nil, append-assoc}
 use mathlib.Core.Option.{some}
 use mathlib.Core.Path.{_≡_, refl, sym, ap, _∙_, subst}
-use native.Mathlib.Numerals.{add-one}
 use native.Mathlib.Omega.{arith}
-use lib.ListN.{length, take, drop, length-append}
-use lib.Seq.{drop-cons, take-append-seam}
+use lib.ListN.{length, drop, length-append}
 use Rattle.bits.proofs.Memory.{Left, Puts, puts-length, puts-more, puts-none, written-of}
 use Rattle.table.specs.Answers.{Answer, given, refused}
 use Rattle.table.specs.declared.rules.Rules.{Rules}
 use Rattle.table.specs.Table.{lengthOf}
 use Rattle.text.specs.Lines.{Line, line, text}
 use Rattle.text.proofs.Decimals.{decimal-some}
-use Rattle.text.proofs.Lines.{tail-is}
 use Rattle.walk.specs.Step.{Found, ended, command, stopped, firstOf, foundAt, Heading, heading, inNumbers, stepAt}
 use Rattle.walk.specs.Walk.{Cmd, Ending, end, stop, placeOf, walkFrom}
 use Rattle.walk.proofs.Laws.{ends-at, walk-ends}
-use Rattle.walk.proofs.Steps.{Goes, Here, past, ends, goes, here, walk-goes, found-ends, found-goes, found-command, command-told}
+use Rattle.walk.proofs.Steps.{Goes, Here, past, ends, goes, here, walk-goes, found-ends, found-goes, found-command, goes-body, command-told}
 use Rattle.listings.specs.Into.{lengthWithin}
 use Rattle.listings.specs.Listing.{linesOf, commandLine, lastLine, inFrame, printed, listingOf}
 use Rattle.listings.specs.Passes.{bodyAt, stepLine, Stands}
@@ -27,17 +24,9 @@ use Rattle.listings.proofs.Lining.{command-long, end-long, frame-long, 
 -- ---- a step with a command
 
 module _ (rules : Rules) (s : List ℕ) where
-  body-is : {at next : ℕ} {c : Cmd} → Goes (lengthOf rules) s at c next → bodyAt s at (length (c .body)) ≡ c .body
-  body-is {at} {next} {c} g =
-      let f = g .fits in
-      let b = g .behind in
-      let e : drop (at + 1) s ≡ c .body ++ drop next s =
-      ap (λ (k : ℕ). drop k s) (add-one at) ∙ tail-is (sym (drop-cons s at 0 (omega arith)) ∙ g .bytes) in
-      ap (take (length (c .body))) e ∙ take-append-seam (c .body) (drop next s)
-
   line-is : {at next : ℕ} {c : Cmd} → Goes (lengthOf rules) s at c next
       → stepLine rules s at (inNumbers (given (command c next))) ≡ commandLine rules (record { at = at; cmd = c })
-  line-is {at} {next} {c} g = ap (λ (b : List ℕ). commandLine rules (record { at = at; cmd = record { cid = c .cid; body = b } })) (body-is g)
+  line-is {at} {next} {c} g = ap (λ (b : List ℕ). commandLine rules (record { at = at; cmd = record { cid = c .cid; body = b } })) (goes-body (lengthOf rules) s g)
 
   pub stands : {at cid len next : ℕ} → stepAt (lengthOf rules) s at ≡ given (command (heading cid len) next) → Stands rules s at cid len
   stands {at} {cid} {len} {next} p =
