@@ -43,7 +43,7 @@ impl Record {
         }
     }
 
-    // The record of no command: no table has CID 0.
+    // The record of no command: no row of the table has CID 0.
     pub fn none() -> Record
         ensures { λ r. ⌜ r ≡ noRecord ⌝ }
     {
@@ -61,8 +61,8 @@ impl Record {
     fn counted(self) -> usize
         ensures { λ r. ⌜ r ≡ length (take (self .len) (self .payload)) ⌝ }
     {
-        let n = self.len;
-        if n < 5 { n } else { 5 }
+        let len = self.len;
+        if len < 5 { len } else { 5 }
     }
 
     // Writes CID and payload at an offset, and answers the offset behind them. Where there is no room for them, nothing is written,
@@ -118,7 +118,7 @@ impl Record {
     }
 }
 
-// A record's length, held against what the table says of its CID, which is five bytes at most.
+// A record's length, held against what the table says of its CID: five bytes at most.
 fn measured(length: Length, len: usize) -> Judged
     requires { ⌜ ((n : ℕ) → toldLength length ≡ some n → n ≤ 5) ⌝ }
     ensures { λ r. ⌜ toldJudged r ≡ measuredBy (toldLength length) len ⌝ }

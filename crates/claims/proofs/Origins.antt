@@ -222,7 +222,7 @@ origins-tell = record {
   there = λ rules frame stream at r g. record { defined = g .1 .1; its-step = λ q h. step-tells (ap (λ x. x .0) (g .1 .1) ∙ sym (h .1 .1)) };
   of-no-frame = record {
     new = λ cid len payload r g. none-says _ r (g .1 .1);
-    none = λ r g. none-says _ r (g .1 .1);
+    none = λ r g. g .1 .1;
     of-uplink = λ c r g. none-says _ r (g .1 .1);
     of-downlink = λ c r g. none-says _ r (g .1 .1);
     of-uplink-creator = λ c r g. none-says _ r (g .1 .1);

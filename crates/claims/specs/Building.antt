@@ -1,4 +1,4 @@
--- What the builds answer and leave in lent memory: all that their contracts admit (RULES: D1, D3d, D3e, B1 to B4).
+-- What the builds answer and leave in lent memory: all that their contracts admit (RULES: D1, D3d to D3f, B1 to B4).
 use Prim.Native.Nat.{ℕ, _<_, _≤_}
 use mathlib.Core.List.{List, map}
 use mathlib.Core.Logic.{_↔_}

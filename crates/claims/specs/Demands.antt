@@ -32,7 +32,7 @@ pub record Demands : Type 2 where
   pub next-is-step : NextIsStep
   -- W7 and B5: where a command came from
   pub origins-tell : OriginsTell
-  -- D3d and D3e: what is built reads back as it was
+  -- D3d to D3f: what is built reads back as it was
   pub builds : Builds
   -- the claims that speak of contracts by hand speak of something
   pub by-hand : ByHand

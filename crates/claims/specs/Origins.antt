@@ -81,14 +81,15 @@ pub record RecordThere (rules : Rules) (frame : ℕ) (stream : RefT (List ℕ)) 
   pub defined : toldHanded r ≡ handedAt (lengthOf rules) frame (now stream) at
   pub its-step : (q : Step) → Gives step-at.Post (rules, (stream, (at, tt))) q → r .step ≡ q
 
--- one that was made of a command, a creator or a packed slot came from no frame, and has no place in one
+-- one that was made of parts, of a command or of a creator came from no frame, and has no place in one
 pub record FromNoFrame (r : Record) : Type 0 where
   pub frame : r .frame ≡ 0
   pub offset : r .offset ≡ 0
 
 pub record MadeOfNoFrame : Type 0 where
   pub new : (cid len : ℕ) (payload : List ℕ) (r : Record) → Gives new.Post (cid, (len, (payload, tt))) r → FromNoFrame r
-  pub none : (r : Record) → Gives none.Post tt r → FromNoFrame r
+  -- and that of no command has nothing in it
+  pub none : (r : Record) → Gives none.Post tt r → r ≡ record { cid = 0; payload = 0 ∷ 0 ∷ 0 ∷ 0 ∷ 0 ∷ []; frame = 0; len = 0; offset = 0 }
   pub of-uplink : (c : UplinkMacCommand) (r : Record) → Gives of-uplink.Post (c, tt) r → FromNoFrame r
   pub of-downlink : (c : DownlinkMacCommand) (r : Record) → Gives of-downlink.Post (c, tt) r → FromNoFrame r
   pub of-uplink-creator : (c : UplinkMacCommandCreator) (r : Record) → Gives of-uplink-creator.Post (c, tt) r → FromNoFrame r
