@@ -1,7 +1,7 @@
 -- P1 to P15 and P17 hold: of the definitions, where each side computes, and so of every outcome that the contracts admit. Assumes nothing.
 use Prim.Native.Nat.{ℕ}
 use mathlib.Core.Bool.{Bool}
-use mathlib.Core.List.{List, [], _∷_, _++_}
+use mathlib.Core.List.{List, [], _∷_, _++_, map}
 use mathlib.Core.Path.{_≡_, refl, ap, _∙_, subst}
 use native.Mathlib.Omega.{arith}
 use denote.Ref.{now}
@@ -24,8 +24,9 @@ use Rattle.creators.specs.Image.{newOf, putAt, putBytes, checkedAt}
 use Rattle.creators.specs.Setters.{isMargin, marginAt, dwellAt, lowBytes, secondsAt, nanoSecondsAt}
 use Rattle.walk.specs.Walk.{Walk, go, walkOf}
 use Rattle.build.specs.Build.{sumFrom, buildOf}
-use Rattle.build.specs.Handed.{recordsOf}
-use Rattle.build.specs.Records.{slotsOf}
+use Rattle.build.specs.Equal.{EqualLists}
+use Rattle.build.specs.Handed.{fromFrame, recordsOf}
+use Rattle.build.specs.Records.{heldBy, recsIn, slotsOf}
 use Rattle.lent.specs.Records.{itemsOf}
 use Rattle.claims.specs.Examples.{
   Answering,
@@ -49,6 +50,8 @@ use Rattle.claims.specs.Examples.{
   InHertz,
   Says,
   Holds,
+  two,
+  twoSlots,
   p1to6,
   p7to9,
   p10to13,
@@ -58,12 +61,11 @@ use Rattle.claims.specs.Examples.{
   All,
   ExamplesHold,
 }
-use Rattle.claims.specs.Handing.{ReadAs, recordSteps, recordIterator}
-use Rattle.claims.specs.Origins.{HandsOutRecords}
+use Rattle.claims.specs.Handing.{ReadAs, HandsOut, recordSteps, recordIterator}
 use Rattle.claims.proofs.Building.{slots-defined, structs-defined}
 use Rattle.claims.proofs.Handing as Handing
 use Rattle.claims.proofs.Keeping.{both}
-use Rattle.claims.proofs.Origins.{steps-hand-out, iterator-hands-out}
+use Rattle.claims.proofs.Origins.{records-of-the-walk}
 
 abbrev rule : Answering → List ℕ → Bool
 rule LinkADRAns = LinkADRAns·accepts
@@ -88,7 +90,9 @@ Means (power-then-dwell index byte dBm) =
 Means (seconds s a b c d back) =
     (secondsAt (newOf (named "DeviceTimeAns")) s ≡ named "DeviceTimeAns" .cid ∷ a ∷ b ∷ c ∷ d ∷ 0 ∷ []) × (secondsOf (a ∷ b ∷ c ∷ d ∷ 0 ∷ []) ≡ back)
 Means (builds slots records before answer after) =
-    (slotsOf slots ≡ itemsOf records) × (buildOf (lengthOf (record { direction = Up })) (itemsOf records) before ≡ (answer, after))
+    EqualLists (recsIn (slotsOf slots)) (map heldBy records)
+    × (buildOf (lengthOf (record { direction = Up })) (slotsOf slots) before ≡ (answer, after))
+    × (buildOf (lengthOf (record { direction = Up })) (itemsOf records) before ≡ (answer, after))
 Means (channel m c on) = enabledOf m c ≡ on
 Means (channel-set m c on v after) = setChannel m c on ≡ (v, after)
 Means (range b r) = rangeOf b ≡ r
@@ -114,8 +118,10 @@ of-functions (hands d frame bytes records ending) e = λ stream same.
     record {
       cmds = walkOf L (now stream) .cmds;
       same = ap (λ (s : List ℕ). recordsOf frame (walkOf L s .cmds)) same ∙ e .0;
-      by-offsets = subst (HandsOutRecords (recordSteps rules frame stream) frame (walkOf L (now stream) .cmds)) (ap (λ (s : List ℕ). walkOf L s .ending) same ∙ e .1) (steps-hand-out rules stream frame);
-      by-iterator = subst (HandsOutRecords (recordIterator rules frame stream) frame (walkOf L (now stream) .cmds)) (ap (λ (s : List ℕ). walkOf L s .ending) same ∙ e .1) (iterator-hands-out rules stream frame);
+      by-offsets = subst (HandsOut (recordSteps rules frame stream) (fromFrame frame) (walkOf L (now stream) .cmds)) (ap (λ (s : List ℕ). walkOf L s .ending) same ∙ e .1)
+          (records-of-the-walk rules stream frame .by-offsets);
+      by-iterator = subst (HandsOut (recordIterator rules frame stream) (fromFrame frame) (walkOf L (now stream) .cmds)) (ap (λ (s : List ℕ). walkOf L s .ending) same ∙ e .1)
+          (records-of-the-walk rules stream frame .by-iterator);
     }
 of-functions (frequency bytes hz) e = record { so = λ s same a g. in-hertz bytes hz (e .1) a (g .1 .1 ∙ ap (exactly 3) same ∙ e .0) }
 of-functions (margin-reads b m) e = record { so = λ battery r g. g .1 .1 ∙ e battery }
@@ -138,8 +144,8 @@ of-functions (seconds s a b c d back) e = record {
 }
 of-functions (builds slots records before answer after) e = record {
   same = e .0;
-  packed = λ a o b. both (slots-defined _ _ _ _ _ b .says ∙ ap (λ xs. buildOf (lengthOf (record { direction = Up })) xs before) (e .0) ∙ e .1);
-  structs = λ a o b. both (structs-defined _ _ _ _ _ b .says ∙ e .1);
+  packed = λ a o b. both (slots-defined _ _ _ _ _ b .says ∙ e .1);
+  structs = λ a o b. both (structs-defined _ _ _ _ _ b .says ∙ e .2);
 }
 of-functions (channel m c on) e = record { so = λ r g. g .1 .1 ∙ e }
 of-functions (channel-set m c on v after) e = record { so = λ r g. both (g .1 .1 ∙ e) }
@@ -163,9 +169,14 @@ second : Every Means p7to9
 unfolding isMargin marginAt
 second = ((refl, refl), ((refl, refl), (λ b. refl, (λ b. refl, (λ b. refl, (λ i. refl, (λ i. refl, (refl, (refl, (refl, (refl, tt)))))))))))
 
+-- the two records, in slots and as structs
+same-two : EqualLists (recsIn (slotsOf twoSlots)) (map heldBy two)
+unfolding tabulate
+same-two = (record { cid = refl; len = refl; payload = refl }, (record { cid = refl; len = refl; payload = refl }, tt))
+
 third : Every Means p10to13
 unfolding nanoSecondsAt putAt putBytes checkedAt dwellAt lowBytes secondsAt sumFrom tabulate
-third = (refl, (refl, (refl, ((refl, refl, refl), ((refl, refl), ((refl, refl), ((refl, refl), tt)))))))
+third = (refl, (refl, (refl, ((refl, refl, refl), ((refl, refl), ((same-two, refl, refl), ((same-two, refl, refl), tt)))))))
 
 fourth : Every Means p14and15
 fourth = (refl, (refl, (refl, (refl, (refl, (refl, (refl, (refl, (refl, tt)))))))))

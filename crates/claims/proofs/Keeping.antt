@@ -10,30 +10,28 @@ use lib.ListN.{length, set}
 use borrow.Author.Tests.{lt-ltb, le-ltb, le-leb, lt-leb}
 use denote.Ref.{RefT, now}
 use Rattle.bits.specs.Memory.{over, writtenAt}
-use Rattle.table.specs.Answers.{Answer, Consent, given, refused, accepted}
-use Rattle.table.specs.Table.{lengthOf}
+use Rattle.table.specs.Answers.{Answer, Consent, refused, accepted}
 use Rattle.table.specs.Told.{toldVerdict}
 use Rattle.table.specs.declared.refusal.Verdict.{Verdict}
 use Rattle.fields.specs.Mask.{switched}
 use Rattle.fields.specs.Places.{LinkADRReq·dataRate, LinkADRReq·txPower, RXTimingSetupReq·delay, TXParamSetupReq·maxEirp, DevStatusAns·whole, DeviceTimeAns·fraction}
 use Rattle.creators.specs.Image.{putAt, onlyIf, checkedAt}
 use Rattle.creators.specs.Setters.{isMargin, sixBits, marginAt, nanoSecondsAt}
-use Rattle.walk.specs.Step.{Found, ended, command, stopped, Heading}
+use Rattle.walk.specs.Step.{Found, Heading}
 use Rattle.walk.specs.Told.{toldStep}
 use Rattle.walk.specs.Walk.{Cmd}
-use Rattle.build.specs.Records.{heldBy, noRecord, commandBytes, lenByte, packedAt}
+use Rattle.build.specs.Records.{heldBy, commandBytes, lenByte, packedAt}
 use Rattle.build.specs.declared.record.Record.{Record}
 use Rattle.build.proofs.record.Record.write.Reads as write
 use Rattle.build.proofs.record.Record.pack.Reads as pack
-use Rattle.build.proofs.AsRecords.{no-record}
-use Rattle.lent.specs.Iterator.{movedTo, stepOf, atIndex}
+use Rattle.lent.specs.Iterator.{movedTo, atIndex}
 use Rattle.lent.specs.declared.iterator.MacCommandIterator.{MacCommandIterator}
-use Rattle.claims.specs.Handing.{NextAsked, NextRecordAsked, withPayload}
+use Rattle.claims.specs.Handing.{NextAsked, NextRecordAsked}
 use Rattle.claims.specs.Handing as Handing
 use Rattle.claims.specs.Keeping.{Checked, Written, RefusalsKeep, MasksTell}
 use Rattle.claims.specs.Outcomes.{GivesWith}
 use Rattle.claims.proofs.Building.{keeps-slots, keeps-structs, keeps-four}
-use Rattle.claims.proofs.Handing.{next-says, next-record-says}
+use Rattle.claims.proofs.Handing.{next-says, next-record-says, retold-refused}
 
 -- two equations from one of pairs
 pub both : {A B : Type 0} {a c : A} {b d : B} → _≡_ {A = A × B} (a, b) (c, d) → (a ≡ c) × (b ≡ d)
@@ -101,23 +99,14 @@ at-most i k h = le-leb i k (by (decLe i k))
 next-kept : (it : MacCommandIterator) (a : Answer (Found Cmd)) (it' : MacCommandIterator) (n : ℕ) → NextAsked it a it' → a ≡ refused n → it' ≡ it
 next-kept _ _ _ n (Handing.asked it r p κs exit q g) e =
     let t = next-says it r κs exit q in
-    let r-is : toldStep r ≡ refused n = told (toldStep r) (now p) n e in
+    let r-is : toldStep r ≡ refused n = retold-refused (λ (h : Heading). record { cid = h .cid; body = now p }) (toldStep r) n e in
     ap (λ x. x .1) t ∙ ap (λ (x : Answer (Found Heading)). atIndex (now it) (movedTo x (now it .index))) (sym (ap (λ x. x .0) t) ∙ r-is)
-  where
-    told : (x : Answer (Found Heading)) (b : List ℕ) (n : ℕ) → withPayload x b ≡ refused n → x ≡ refused n
-    told (given ended) b n e = let z : _≡_ {A = ℕ} 0 1 = cc in absurd (omega arith)
-    told (given (command h next)) b n e = let z : _≡_ {A = ℕ} 0 1 = cc in absurd (omega arith)
-    told (given (stopped k o)) b n e = let z : _≡_ {A = ℕ} 0 1 = cc in absurd (omega arith)
-    told (refused k) b n e = cc
 
-next-record-kept : (frame : ℕ) (it : MacCommandIterator) (x : Answer (Found Heading) × Record) (it' : MacCommandIterator) (n : ℕ) → NextRecordAsked frame it x it' → x .0 ≡ refused n
-    → (x .1 ≡ noRecord) × (it' ≡ it)
+next-record-kept : (frame : ℕ) (it : MacCommandIterator) (a : Answer (Found Record)) (it' : MacCommandIterator) (n : ℕ) → NextRecordAsked frame it a it' → a ≡ refused n → it' ≡ it
 next-record-kept frame _ _ _ n (Handing.asked it r κs exit q) e =
     let t = next-record-says it frame r κs exit q in
-    let step : stepOf (now it) ≡ refused n = sym (ap (λ x. x .0 .0) t) ∙ e in (
-      ap (λ x. x .0 .1) t ∙ sym (no-record (lengthOf (now it .rules)) (now (now it .«data»)) frame (now it .index) (refused n) step refl),
-      ap (λ x. x .1) t ∙ ap (λ (x : Answer (Found Heading)). atIndex (now it) (movedTo x (now it .index))) step,
-    )
+    let r-is : toldStep (r .step) ≡ refused n = retold-refused (λ (h : Heading). r .«record») (toldStep (r .step)) n e in
+    ap (λ x. x .1) t ∙ ap (λ (x : Answer (Found Heading)). atIndex (now it) (movedTo x (now it .index))) (sym (ap (λ x. x .0 .0) t) ∙ r-is)
 
 write-says : (r : Record) (out : RefT (List ℕ)) (at next : ℕ) (after : List ℕ) → GivesWith (λ s. now (s .1 .0)) write.Post (r, (out, (at, tt))) next after
     → Written (now out) at (heldBy r) next after

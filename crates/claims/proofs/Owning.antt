@@ -22,10 +22,10 @@ use Rattle.walk.proofs.Told.{step-tells}
 use Rattle.walk.proofs.step.step_at.Reads as step-at
 use Rattle.walk.proofs.step.payload_at.Reads as payload-at
 use Rattle.walk.proofs.whole.walk.Reads as walk
-use Rattle.claims.specs.Handing.{Front, withPayload, NoCommand, none-handed, steps, uplinkSteps, downlinkSteps, iterator, recordSteps, recordIterator, commandsOf}
+use Rattle.claims.specs.Handing.{Front, withPayload, NoCommand, none-handed, itself, steps, uplinkSteps, downlinkSteps, iterator, recordSteps, recordIterator, commandsOf}
 use Rattle.claims.specs.Outcomes.{Gives}
 use Rattle.claims.specs.Owning.{OwnsBytes, StopsThere, Begins, all-out, coming, FrontsBegin, OneOwnerBy, WholeWalk, ShownBehind, OneOwner, NextIsStep}
-use Rattle.claims.proofs.Handing.{bare-append, next-says, stands-behind, Faithful, Position, position, answered, reads, steps-faithful, uplink-faithful, downlink-faithful, iterator-faithful, commands-faithful, records-faithful, record-iterator-faithful}
+use Rattle.claims.proofs.Handing.{bare-append, next-says, stands-behind, toldAt, Faithful, Position, position, out-bare, answered-first, reads, steps-faithful, uplink-faithful, downlink-faithful, iterator-faithful, commands-faithful, records-faithful, record-iterator-faithful}
 
 -- ---- lists
 
@@ -52,7 +52,7 @@ beginnings (x ∷ xs) ys (u ∷ us) vs e =
 
 -- ---- of one entry
 
-module _ (rules : Rules) (stream : RefT (List ℕ)) (F : Front) (f : Faithful (lengthOf rules) (now stream) F) where
+module _ (rules : Rules) (stream : RefT (List ℕ)) (F : Front Cmd) (f : Faithful (lengthOf rules) (now stream) itself F) where
   abbrev L : Rule
   L = lengthOf rules
 
@@ -60,21 +60,25 @@ module _ (rules : Rules) (stream : RefT (List ℕ)) (F : Front) (f : Faithful (l
   s = now stream
 
   abbrev At : F .State → List Cmd → Type 0
-  At st out = Position L s F f st out
+  At st out = Position L s itself F f st out
+
+  -- what was handed out
+  its : {st : F .State} {out : List Cmd} (p : At st out) → out ≡ bare (p .before)
+  its p = out-bare L s F f p
 
   owns : OwnsBytes rules stream F
   owns st out r =
-      let p = position L s F f r in
+      let p = position L s itself F f r in
       let o = Ownership.every-byte-owned L s (p .before) (p .coming) (p .parted) in
       record {
-        commands = subst (WellFormed L) (sym (p .handed-out)) (o .commands);
+        commands = subst (WellFormed L) (sym (its p)) (o .commands);
         within = subst (λ (k : ℕ). k ≤ length s) (sym (p .stands)) (o .within);
-        bytes = ap (λ (k : ℕ). take k s) (p .stands) ∙ o .bytes ∙ ap encode (sym (p .handed-out));
+        bytes = ap (λ (k : ℕ). take k s) (p .stands) ∙ o .bytes ∙ ap encode (sym (its p));
       }
 
   -- it stands behind what was handed out
   behind : {st : F .State} {out : List Cmd} (p : At st out) → F .offset st ≡ length (encode out)
-  behind p = p .stands ∙ stands-behind L s (p .before) (p .coming) (p .parted) ∙ ap (λ (cs : List Cmd). length (encode cs)) (sym (p .handed-out))
+  behind p = p .stands ∙ stands-behind L s (p .before) (p .coming) (p .parted) ∙ ap (λ (cs : List Cmd). length (encode cs)) (sym (its p))
 
   -- where no command is answered, none is to come
   none-coming : (a : Answer (Found Cmd)) (ps : List Placed) (e : Ending) → NoCommand a → a ≡ given (firstOf ps e) → ps ≡ []
@@ -83,9 +87,9 @@ module _ (rules : Rules) (stream : RefT (List ℕ)) (F : Front) (f : Faithful (l
 
   stops : StopsThere rules stream F
   stops st st' out a r q n =
-      let p = position L s F f r in
-      let p' = position L s F f (none-handed st st' out a r q n) in
-      let told = answered L s F f p a st' q in
+      let p = position L s itself F f r in
+      let p' = position L s itself F f (none-handed st st' out a r q n) in
+      let told = answered-first L s F f p a st' q in
       let last : p .coming ≡ [] = none-coming a (p .coming) (walkOf L s .ending) n told in
       let says : a ≡ given (firstOf [] (walkOf L s .ending)) = told ∙ ap (λ (ps : List Placed). given (firstOf ps (walkOf L s .ending))) last in
       let there : F .offset st ≡ placeOf (walkOf L s .ending) = p .stands ∙ ap (λ (ps : List Placed). offsetOf ps (walkOf L s .ending)) last in
@@ -96,26 +100,26 @@ module _ (rules : Rules) (stream : RefT (List ℕ)) (F : Front) (f : Faithful (l
         ends = subst (λ (k : ℕ). Ends L k (drop k s) (walkOf L s .ending)) (sym there) (Ownership.stops-only-there L s);
         stays = λ b st″ x.
             f .asks st' st″ b (p' .sound) x .0
-            ∙ ap (foundAt L s) (behind p' ∙ sym (behind p))
+            ∙ ap (toldAt itself L s) (behind p' ∙ sym (behind p))
             ∙ sym (f .asks st st' a (p .sound) q .0);
         whole = λ w g.
             g .1 .1
-            ∙ ap (λ (n : ℕ). (given (walkOf L s .ending), n)) (ap length all ∙ sym (bare-length (p .before)) ∙ ap length (sym (p .handed-out)));
+            ∙ ap (λ (n : ℕ). (given (walkOf L s .ending), n)) (ap length all ∙ sym (bare-length (p .before)) ∙ ap length (sym (its p)));
       }
 
   begins : FrontsBegin rules stream F
   begins cs rest wf e st out r =
-      let p = position L s F f r in
+      let p = position L s itself F f r in
       let front = Ownership.fronts-are-beginnings L s cs rest wf e in
       by p (beginnings (place 0 cs) (front .0) (p .before) (p .coming) (sym (front .1) ∙ p .parted))
     where
       by : (p : At st out) → {ys : List Placed} → Beginnings (place 0 cs) ys (p .before) (p .coming) → Begins rules stream F cs st out
       by p (longer m q) =
-          all-out (bare m) (p .handed-out ∙ ap bare q ∙ bare-append (place 0 cs) m ∙ ap (λ (l : List Cmd). l ++ bare m) (bare-place 0 cs))
+          all-out (bare m) (its p ∙ ap bare q ∙ bare-append (place 0 cs) m ∙ ap (λ (l : List Cmd). l ++ bare m) (bare-place 0 cs))
       by p (shorter x m more q c) =
           coming (x .cmd) (bare m)
-          (sym (bare-place 0 cs) ∙ ap bare q ∙ bare-append (p .before) (x ∷ m) ∙ ap (λ (l : List Cmd). l ++ (x .cmd ∷ bare m)) (sym (p .handed-out)))
-          (λ a st' ask. answered L s F f p a st' ask
+          (sym (bare-place 0 cs) ∙ ap bare q ∙ bare-append (p .before) (x ∷ m) ∙ ap (λ (l : List Cmd). l ++ (x .cmd ∷ bare m)) (sym (its p)))
+          (λ a st' ask. answered-first L s F f p a st' ask
           ∙ ap (λ (ps : List Placed). given (firstOf ps (walkOf L s .ending))) c
           ∙ ap (λ (k : ℕ). given (command (x .cmd) (k + size (x .cmd)))) (sym (p .stands ∙ ap (λ (ps : List Placed). offsetOf ps (walkOf L s .ending)) c)))
 

@@ -1,7 +1,7 @@
 -- The examples of RULES, P1 to P15 and P17, as one list. Each holds of every outcome that the contracts of the functions that it names admit.
 use Prim.Native.Nat.{ℕ}
 use mathlib.Core.Bool.{Bool, true, false}
-use mathlib.Core.List.{List, [], _∷_, _++_}
+use mathlib.Core.List.{List, [], _∷_, _++_, map}
 use mathlib.Core.Path.{_≡_}
 use lib.IntN.{ℤ, pos, negℤ}
 use denote.Ref.{RefT, now}
@@ -24,8 +24,9 @@ use Rattle.creators.specs.declared.device_time.DeviceTimeAnsCreatorAnswer.{Devi
 use Rattle.creators.specs.declared.tx_param_setup.TXParamSetupReqCreator.{TXParamSetupReqCreator}
 use Rattle.creators.specs.declared.tx_param_setup.TXParamSetupReqCreatorAnswer.{TXParamSetupReqCreatorAnswer}
 use Rattle.walk.specs.Walk.{Placed, placed, Ending, end, stop}
-use Rattle.build.specs.Handed.{recordsOf}
-use Rattle.build.specs.Records.{frameless, slotsOf}
+use Rattle.build.specs.Equal.{EqualLists}
+use Rattle.build.specs.Handed.{fromFrame, recordsOf}
+use Rattle.build.specs.Records.{frameless, heldBy, recsIn, slotsOf}
 use Rattle.build.specs.Build.{Built, total}
 use Rattle.build.specs.Build as Build
 use Rattle.build.specs.declared.record.Record.{Record}
@@ -49,8 +50,7 @@ use Rattle.creators.proofs.tx_param_setup.TXParamSetupReqCreator.new.Reads as t
 use Rattle.creators.proofs.tx_param_setup.TXParamSetupReqCreator.set_max_eirp.Reads as set-max-eirp
 use Rattle.creators.proofs.tx_param_setup.TXParamSetupReqCreator.set_downlink_dwell_time.Reads as set-dwell
 use Rattle.claims.specs.Building.{FromSlots, FromStructs}
-use Rattle.claims.specs.Handing.{ReadAs, recordSteps, recordIterator}
-use Rattle.claims.specs.Origins.{HandsOutRecords}
+use Rattle.claims.specs.Handing.{ReadAs, HandsOut, recordSteps, recordIterator}
 use Rattle.claims.specs.Outcomes.{Gives}
 
 -- the answers whose `ack` P9 asks
@@ -91,8 +91,8 @@ pub data Example : Type 0 where
 pub record HandedOut (rules : Rules) (frame : ℕ) (stream : RefT (List ℕ)) (records : List Record) (ending : Ending) : Type 2 where
   pub cmds : List Placed
   pub same : recordsOf frame cmds ≡ records
-  pub by-offsets : HandsOutRecords (recordSteps rules frame stream) frame cmds ending
-  pub by-iterator : HandsOutRecords (recordIterator rules frame stream) frame cmds ending
+  pub by-offsets : HandsOut (recordSteps rules frame stream) (fromFrame frame) cmds ending
+  pub by-iterator : HandsOut (recordIterator rules frame stream) (fromFrame frame) cmds ending
 
 -- whatever `ack` may answer is this
 abbrev pub Says : Answering → ℕ → Bool → Type 0
@@ -118,7 +118,7 @@ pub record SecondsThere (s a b c d back : ℕ) : Type 0 where
 
 -- by either build
 pub record BuildsTo (slots : List ℕ) (records : List Record) (before : List ℕ) (answer : Built) (after : List ℕ) : Type 2 where
-  pub same : slotsOf slots ≡ itemsOf records
+  pub same : EqualLists (recsIn (slotsOf slots)) (map heldBy records)
   pub packed : (a : Built) (o : List ℕ) → FromSlots (record { direction = Up }) (slotsOf slots) before a o → (a ≡ answer) × (o ≡ after)
   pub structs : (a : Built) (o : List ℕ) → FromStructs (record { direction = Up }) (itemsOf records) before a o → (a ≡ answer) × (o ≡ after)
 

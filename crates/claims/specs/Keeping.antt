@@ -32,9 +32,9 @@ use Rattle.creators.specs.declared.tx_param_setup.TXParamSetupReqCreator.{TXPar
 use Rattle.creators.specs.declared.tx_param_setup.TXParamSetupReqCreatorAnswer.{TXParamSetupReqCreatorAnswer}
 use Rattle.creators.specs.declared.device_time.DeviceTimeAnsCreator.{DeviceTimeAnsCreator}
 use Rattle.creators.specs.declared.device_time.DeviceTimeAnsCreatorAnswer.{DeviceTimeAnsCreatorAnswer}
-use Rattle.walk.specs.Step.{Found, Heading}
+use Rattle.walk.specs.Step.{Found}
 use Rattle.walk.specs.Walk.{Cmd}
-use Rattle.build.specs.Records.{Rec, heldBy, noRecord, commandBytes, packedAt}
+use Rattle.build.specs.Records.{Rec, heldBy, commandBytes, packedAt}
 use Rattle.build.specs.declared.record.Record.{Record}
 use Rattle.lent.specs.declared.iterator.MacCommandIterator.{MacCommandIterator}
 use Rattle.fields.proofs.channel_mask.ChannelMask2.default.Reads as default-2
@@ -82,8 +82,7 @@ pub record RefusalsKeep : Type 2 where
   pub four : RefusedKeeps FromFour
   -- an iterator that stands past its stream
   pub next : (it : MacCommandIterator) (a : Answer (Found Cmd)) (it' : MacCommandIterator) (n : ℕ) → NextAsked it a it' → a ≡ refused n → it' ≡ it
-  pub next-record : (frame : ℕ) (it : MacCommandIterator) (x : Answer (Found Heading) × Record) (it' : MacCommandIterator) (n : ℕ) → NextRecordAsked frame it x it' → x .0 ≡ refused n
-      → (x .1 ≡ noRecord) × (it' ≡ it)
+  pub next-record : (frame : ℕ) (it : MacCommandIterator) (a : Answer (Found Record)) (it' : MacCommandIterator) (n : ℕ) → NextRecordAsked frame it a it' → a ≡ refused n → it' ≡ it
   -- the memory that one record is written to, or packed into: where it has no room, nothing is written, and the offset stays
   pub write : (r : Record) (out : RefT (List ℕ)) (at next : ℕ) (after : List ℕ) → GivesWith (λ s. now (s .1 .0)) write.Post (r, (out, (at, tt))) next after
       → Written (now out) at (heldBy r) next after

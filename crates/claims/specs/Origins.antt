@@ -1,20 +1,19 @@
 -- Where a command came from (RULES: W7, B5): what the entries hand out as records along the walk of a stream, and that a build looks at no frame
 -- and no offset. Of every outcome that the contracts admit.
 use Prim.Native.Nat.{ℕ}
-use mathlib.Core.List.{List, [], _∷_, _++_, map}
+use mathlib.Core.List.{List, [], _∷_, map}
 use mathlib.Core.Path.{_≡_}
 use denote.Ref.{RefT, now}
+use contract.Lifetimes.{Lfts}
 use Rattle.bits.specs.Every.{Every}
-use Rattle.table.specs.Answers.{Answer, given}
 use Rattle.table.specs.Table.{lengthOf}
 use Rattle.table.specs.declared.rules.Rules.{Rules}
 use Rattle.payloads.specs.declared.uplink.UplinkMacCommand.{UplinkMacCommand}
 use Rattle.payloads.specs.declared.downlink.DownlinkMacCommand.{DownlinkMacCommand}
 use Rattle.creators.specs.declared.kinds.UplinkMacCommandCreator.{UplinkMacCommandCreator}
 use Rattle.creators.specs.declared.kinds.DownlinkMacCommandCreator.{DownlinkMacCommandCreator}
-use Rattle.walk.specs.Ownership.{offsetOf}
-use Rattle.walk.specs.Step.{Found, command, Heading, firstOf, inNumbers}
-use Rattle.walk.specs.Walk.{Placed, Ending, bare}
+use Rattle.walk.specs.Told.{toldStep}
+use Rattle.walk.specs.Walk.{Placed, Walk, bare, walkOf}
 use Rattle.walk.specs.declared.step.Step.{Step}
 use Rattle.build.specs.Build.{Built}
 use Rattle.build.specs.Equal.{EqualLists, asRec}
@@ -24,6 +23,7 @@ use Rattle.build.specs.Told.{toldHanded}
 use Rattle.build.specs.declared.handed.Handed.{Handed}
 use Rattle.build.specs.declared.record.Record.{Record}
 use Rattle.lent.specs.Packing.{Packed}
+use Rattle.lent.specs.declared.iterator.MacCommandIterator.{MacCommandIterator}
 use Rattle.walk.proofs.step.step_at.Reads as step-at
 use Rattle.build.proofs.handed.record_at.Reads as record-at
 use Rattle.build.proofs.record.Record.new.Reads as new
@@ -33,53 +33,41 @@ use Rattle.build.proofs.record.Record.of_downlink.Reads as of-downlink
 use Rattle.build.proofs.record.Record.of_uplink_creator.Reads as of-uplink-creator
 use Rattle.build.proofs.record.Record.of_downlink_creator.Reads as of-downlink-creator
 use Rattle.build.proofs.record.Record.pack.Reads as pack
+use Rattle.lent.proofs.iterator.MacCommandIterator.next as next
+use Rattle.lent.proofs.iterator.MacCommandIterator.next_record as next-record
 use Rattle.claims.specs.Building.{SlotsBuilt, StructsBuilt, FourBuilt, SlotsLength, StructsLength}
-use Rattle.claims.specs.Handing.{RecordFront, NoCommand, ReadAs, recordSteps, recordIterator}
-use Rattle.claims.specs.Outcomes.{Gives, GivesWith}
+use Rattle.claims.specs.Handing.{NoCommand, HandsOut, recordSteps, recordIterator}
+use Rattle.claims.specs.Outcomes.{Gives, GivesWith, Admits}
 
 -- ---- along the walk
 
--- the record of the first of these commands, or that of no command
-abbrev pub firstRecord : (frame : ℕ) → List Placed → Record
-firstRecord frame [] = noRecord
-firstRecord frame (p ∷ ps) = fromFrame frame p
+-- records of these commands: each with the frame's number, its own offset, and the same CID, length and payload
+pub record Stamped (frame : ℕ) (cmds : List Placed) (records : List Record) : Type 0 where
+  pub frames : Every (λ (r : Record). r .frame ≡ frame) records
+  pub offsets : map (λ (r : Record). r .offset) records ≡ map (λ (p : Placed). p .at) cmds
+  pub commands : EqualLists (map heldBy records) (map asRec (bare cmds))
 
-module _ (F : RecordFront) where
-  -- asked again and again, the entry has handed out these records, and stands so
-  pub data Records : F .State → List Record → Type 2 where
-    begun : (st : F .State) → F .begin st → Records st []
-    handed : (st st' : F .State) (rs : List Record) (h : Heading) (next : ℕ) (r : Record) → Records st rs → F .ask st (given (command h next), r) st' → Records st' (rs ++ (r ∷ []))
-    none-handed : (st st' : F .State) (rs : List Record) (a : Answer (Found Heading)) (r : Record) → Records st rs → F .ask st (a, r) st' → NoCommand a → Records st' rs
+-- what is handed out as records of a frame, whatever its number, is exactly the walk's list, which every entry reads (`defined`, Owning.antt)
+module _ (rules : Rules) (stream : RefT (List ℕ)) where
+  abbrev w : Walk
+  w = walkOf (lengthOf rules) (now stream)
 
-  -- between the commands of a list that were handed out and those to come: the records are those of the former, in order, each with the frame's number,
-  -- its own offset, and the same CID, length and payload; and whatever is answered is the record of the next, or at the ending that of no command
-  pub record Stamped (frame : ℕ) (cmds : List Placed) (ending : Ending) (st : F .State) (out : List Record) : Type 2 where
-    pub before : List Placed
-    pub coming : List Placed
-    pub parted : cmds ≡ before ++ coming
-    pub handed-out : out ≡ recordsOf frame before
-    pub frames : Every (λ (r : Record). r .frame ≡ frame) out
-    pub offsets : map (λ (r : Record). r .offset) out ≡ map (λ (p : Placed). p .at) before
-    pub commands : EqualLists (map heldBy out) (map asRec (bare before))
-    pub stands : F .offset st ≡ offsetOf coming ending
-    pub answered : (x : Answer (Found Heading) × Record) (st' : F .State) → F .ask st x st' → x ≡ (inNumbers (given (firstOf coming ending)), firstRecord frame coming)
+  pub record RecordsOfTheWalk (frame : ℕ) : Type 2 where
+    pub by-offsets : HandsOut (recordSteps rules frame stream) (fromFrame frame) (w .cmds) (w .ending)
+    pub by-iterator : HandsOut (recordIterator rules frame stream) (fromFrame frame) (w .cmds) (w .ending)
+    pub stamped : Stamped frame (w .cmds) (recordsOf frame (w .cmds))
 
-  -- exactly these commands are handed out as records of the frame
-  abbrev pub HandsOutRecords : (frame : ℕ) → List Placed → Ending → Type 2
-  HandsOutRecords frame cmds ending = (st : F .State) (out : List Record) → Records st out → Stamped frame cmds ending st out
-
--- what every entry reads of a stream is what is handed out as records, whatever the frame's number
-pub record RecordsOfTheWalk (rules : Rules) (stream : RefT (List ℕ)) : Type 2 where
-  pub cmds : List Placed
-  pub ending : Ending
-  pub read : ReadAs rules stream cmds ending
-  pub by-offsets : (frame : ℕ) → HandsOutRecords (recordSteps rules frame stream) frame cmds ending
-  pub by-iterator : (frame : ℕ) → HandsOutRecords (recordIterator rules frame stream) frame cmds ending
-
--- at every offset, on the walk's way or not: the step is that of `step_at`, and the record is the one that is defined
+-- at every offset, on the walk's way or not: the step is that of `step_at`; the record is the one that is defined, and where there is no command, that
+-- of no command
 pub record RecordThere (rules : Rules) (frame : ℕ) (stream : RefT (List ℕ)) (at : ℕ) (r : Handed) : Type 0 where
-  pub defined : toldHanded r ≡ handedAt (lengthOf rules) frame (now stream) at
   pub its-step : (q : Step) → Gives step-at.Post (rules, (stream, (at, tt))) q → r .step ≡ q
+  pub defined : toldHanded r ≡ handedAt (lengthOf rules) frame (now stream) at
+  pub none : NoCommand (toldStep (r .step)) → r .«record» ≡ noRecord
+
+-- an iterator, asked for a record: it is the one at its index, and the iterator is then as `next` would leave it
+pub record RecordNext (frame : ℕ) (it : RefT MacCommandIterator) (r : Handed) (it' : MacCommandIterator) : Type 2 where
+  pub there : RecordThere (now it .rules) frame (now it .«data») (now it .index) r
+  pub moved : (q : Step) (κs : Lfts 2) (exit : RefT MacCommandIterator × Unit) → Admits next.ended (λ M 𝓤. next.clauses 𝓤) κs (it, tt) q exit → it' ≡ now (exit .0)
 
 -- one that was made of parts, of a command or of a creator came from no frame, and has no place in one
 pub record FromNoFrame (r : Record) : Type 0 where
@@ -115,8 +103,10 @@ PacksAlike = (r q : Record) → heldBy r ≡ heldBy q → (s t : RefT (List ℕ)
     → GivesWith (λ s. now (s .1 .0)) pack.Post (r, (s, (i, tt))) tt after → GivesWith (λ s. now (s .1 .0)) pack.Post (q, (t, (i, tt))) tt after' → after ≡ after'
 
 pub record OriginsTell : Type 2 where
-  pub walked : (rules : Rules) (stream : RefT (List ℕ)) → RecordsOfTheWalk rules stream
+  pub walked : (rules : Rules) (stream : RefT (List ℕ)) (frame : ℕ) → RecordsOfTheWalk rules stream frame
   pub there : (rules : Rules) (frame : ℕ) (stream : RefT (List ℕ)) (at : ℕ) (r : Handed) → Gives record-at.Post (rules, (frame, (stream, (at, tt)))) r → RecordThere rules frame stream at r
+  pub next-there : (frame : ℕ) (it : RefT MacCommandIterator) (r : Handed) (κs : Lfts 2) (exit : RefT MacCommandIterator × (ℕ × Unit))
+      → Admits next-record.ended (λ M 𝓤. next-record.clauses 𝓤) κs (it, (frame, tt)) r exit → RecordNext frame it r (now (exit .0))
   pub of-no-frame : MadeOfNoFrame
   -- lists that differ in frames and offsets only are equal, and equal lists are built alike
   pub uncounted : (rs qs : List Record) → map heldBy rs ≡ map heldBy qs → EqualLists (map heldBy rs) (map heldBy qs)

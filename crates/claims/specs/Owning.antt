@@ -36,7 +36,7 @@ module _ (rules : Rules) (stream : RefT (List ℕ)) where
   abbrev s : List ℕ
   s = now stream
 
-  module _ (F : Front) where
+  module _ (F : Front Cmd) where
     -- D3a: the commands handed out, put one behind the other, are the bytes in front of the offset
     pub record OwnedBefore (st : F .State) (out : List Cmd) : Type 2 where
       pub commands : WellFormed L out
