@@ -11,10 +11,10 @@ use lib.Seq.{length-take-le, take-length}
 use Rattle.table.specs.Answers.{Answer}
 use Rattle.table.specs.Answers as Answers
 use Rattle.walk.specs.Walk.{Rule, Cmd, encode}
-use Rattle.build.specs.Build.{Built, next, sumFrom, totalOf, fill, buildOf, refused}
+use Rattle.build.specs.Build.{Built, next, sumFrom, totalOf, fill, refused}
 use Rattle.build.specs.Equal.{Equal, EqualLists, asRec}
 use Rattle.build.specs.Records.{Rec, Item, whole, part, recsIn, cmdOf, cmdsOf, measured, judged}
-use Rattle.build.specs.ThereAndBack.{Commands, BuiltAlike, EqualListsBuiltAlike}
+use Rattle.build.specs.ThereAndBack.{Commands, EqualListsBuiltAlike}
 
 pub equal-self : (rs : List Rec) → EqualLists rs rs
 equal-self [] = tt

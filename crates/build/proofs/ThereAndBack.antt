@@ -2,9 +2,8 @@
 use Prim.Native.Nat.{ℕ, _+_, _<_, _≤_}
 use mathlib.Core.Path.{_≡_, refl, sym, ap, _∙_, subst}
 use mathlib.Core.Bool.{Bool, cond}
-use mathlib.Core.Logic.{_↔_}
 use mathlib.Core.List.{List, [], _∷_, _++_, map}
-use mathlib.Core.Option.{Option, some}
+use mathlib.Core.Option.{some}
 use native.Mathlib.Nat.{add-zero, zero-add}
 use native.Mathlib.Decide.{decLe}
 use native.Mathlib.Omega.{arith}
@@ -16,12 +15,12 @@ use Rattle.table.specs.Answers.{Answer, given}
 use Rattle.table.specs.Answers as Answers
 use Rattle.walk.specs.Walk.{Rule, Cmd, Walk, WellFormed, end, walkOf, encode, place, bare}
 use Rattle.walk.proofs.Ownership as Ownership
-use Rattle.build.specs.Records.{Rec, Item, whole, part, recsIn, cmdOf, cmdsOf, judged}
+use Rattle.build.specs.Records.{Item, whole, part, recsIn, cmdsOf, judged}
 use Rattle.build.specs.Build.{Built, total, refusedAt, refused, next, sumFrom, totalOf, fill, buildOf}
 use Rattle.build.specs.Equal.{EqualLists, asRec}
 use Rattle.build.specs.Told.{toldBuild}
 use Rattle.build.specs.declared.packed.BuildAnswer.{BuildAnswer}
-use Rattle.build.specs.ThereAndBack.{Commands, Full, WalksBack, BuildThenWalk, Accepts, LengthIsWritten, EqualBytesEqualLists}
+use Rattle.build.specs.ThereAndBack.{Commands, Full, BuildThenWalk, Accepts, LengthIsWritten, EqualBytesEqualLists}
 use Rattle.build.proofs.Equal.{commands-equal, its-commands}
 use Rattle.build.proofs.Judging.{judged-given, judged-known}
 use Rattle.build.proofs.Sums.{too-many, not-too-many}

@@ -1,4 +1,4 @@
--- What is claimed of the build (RULES: D3d, D3e, B2 to B5), for any rule and any lists. proofs/ThereAndBack.antt proves it.
+-- What is claimed of the build (RULES: D3d, D3e, B2 to B4), for any rule and any lists. proofs/ThereAndBack.antt proves it.
 use Prim.Native.Nat.{ℕ, _≤_}
 use mathlib.Core.Path.{_≡_}
 use mathlib.Core.Logic.{_↔_}
@@ -7,7 +7,7 @@ use mathlib.Core.Option.{some}
 use lib.ListN.{length, take, drop}
 use Rattle.walk.specs.Walk.{Rule, end, walkOf, encode, place, bare}
 use Rattle.build.specs.Records.{Rec, Item, whole, part, recsIn, cmdsOf}
-use Rattle.build.specs.Build.{Built, total, totalOf, buildOf}
+use Rattle.build.specs.Build.{total, totalOf, buildOf}
 use Rattle.build.specs.Equal.{EqualLists, asRec}
 
 -- a list of well-formed commands: each a whole record whose length is what the rule gives its CID, with payload bytes to that length
@@ -50,8 +50,7 @@ module _ (L : Rule) where
   EqualBytesEqualLists =
       (xs ys : List Item) → Commands L xs → Commands L ys → encode (cmdsOf xs) ≡ encode (cmdsOf ys) → EqualLists (recsIn xs) (recsIn ys)
 
-  -- of equal lists the build has the same answer and the same bytes, so it looks neither behind a payload (B4) nor at where a record came
-  -- from (B5)
+  -- of equal lists the build has the same answer and the same bytes, so it does not look behind a payload (B4)
   pub record BuiltAlike (rs qs : List Rec) : Type 0 where
     pub len : totalOf L (map whole rs) ≡ totalOf L (map whole qs)
     pub build : (out : List ℕ) → buildOf L (map whole rs) out ≡ buildOf L (map whole qs) out

@@ -1,10 +1,8 @@
 -- `mac_commands_len` meets its contract. The loop's invariant: the whole sum is that of the records from i on. Assumes nothing.
 use Prim.Native.Nat.{ℕ, _+_, _*_, _-_, _/_, _%_, _<_, _≤_}
 use mathlib.Core.Path.{_≡_, refl, sym, ap, _∙_}
-use mathlib.Core.List.{List}
 use native.Mathlib.Omega.{arith}
 use lib.ListN.{length, drop}
-use borrow.Author.Tests.{le-leb, lt-leb}
 use Rattle.table.specs.Answers.{given, refused}
 use Rattle.table.specs.Refusals.{numberOf}
 use Rattle.table.specs.Table.{lengthOf}

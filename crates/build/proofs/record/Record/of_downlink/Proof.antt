@@ -1,5 +1,5 @@
 -- `Record::of_downlink` meets its contract. Assumes nothing.
-use mathlib.Core.Path.{ap, ap₂, _∙_}
+use mathlib.Core.Path.{ap₂, _∙_}
 use Rattle.build.specs.Records.{frameless, ofPayload}
 use borrow.Author.Needs.{needs}
 use Rattle.build.proofs.record.Record.of_downlink.Statement.{statement}

@@ -1,6 +1,5 @@
 -- `Record::of_uplink_creator` meets its contract. Assumes nothing.
-use Prim.Native.Nat.{ℕ, _≤_}
-use mathlib.Core.Path.{_≡_, ap, _∙_}
+use mathlib.Core.Path.{ap, _∙_}
 use native.Mathlib.Omega.{arith}
 use Rattle.build.specs.Records.{frameless, ofImage}
 use borrow.Author.Needs.{needs}

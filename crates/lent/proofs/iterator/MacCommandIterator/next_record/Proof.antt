@@ -13,7 +13,7 @@ use base.Fml.{GName, Lft, Share, Fml, ftrue, flft, fobs, fbor, fat}
 use prog.Memory.{Memory}
 use prog.Routine.{Routine}
 use prog.Wp.{Heap, Calls, Loops, WpFn, Tables}
-use ghost.Atoms.{Atoms, sem}
+use ghost.Atoms.{Atoms}
 use contract.Lifetimes.{AllOutlive}
 use contract.Monad.{Fun}
 use contract.Running.{givenOf, tables, tablesOf}
@@ -54,7 +54,7 @@ use Rattle.build.proofs.handed.record_at as record-at
 use Rattle.build.proofs.handed.record_at.Symbol as record-at-def
 use Rattle.build.proofs.handed.record_at.Symbol.{name as #record-at}
 use Rattle.build.proofs.handed.record_at.Met as record-at-thm
-use Rattle.lent.specs.Iterator.{movedTo, stepOf, handedBy, atIndex, nextedRecord}
+use Rattle.lent.specs.Iterator.{movedTo, handedBy, atIndex, nextedRecord}
 use Rattle.lent.specs.declared.iterator.MacCommandIterator.{MacCommandIterator}
 use Rattle.lent.proofs.Values.{rulesVal, stepVal, handedVal, gives-usize, gives-u32, gives-rules, gives-step, gives-handed, usize-typed, rules-typed, handed-typed}
 use Rattle.lent.proofs.Walking.{Met, asks, leaves, none-left, holding}
