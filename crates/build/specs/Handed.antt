@@ -1,6 +1,6 @@
 -- The walk's commands as records (RULES: W7): each with the caller's frame number and its offset.
 use Prim.Native.Nat.{ℕ}
-use mathlib.Core.List.{List, map}
+use mathlib.Core.List.{List}
 use Rattle.table.specs.Answers.{Answer, given, refused}
 use Rattle.payloads.specs.Commands.{inFive}
 use Rattle.walk.specs.Step.{Found, ended, command, stopped, Heading, foundAt, stepAt}
@@ -12,13 +12,9 @@ use Rattle.build.specs.declared.record.Record.{Record}
 abbrev pub recOf : Cmd → Rec
 recOf c = ofPayload (c .cid) (inFive (c .body))
 
--- of a command at its offset, from a frame
+-- of a command at its offset, which the frame's number stamps
 abbrev pub fromFrame : (frame : ℕ) → Placed → Record
 fromFrame frame p = stamped frame (p .at) (recOf (p .cmd))
-
--- of a walk's list, which the frame number stamps
-abbrev pub recordsOf : (frame : ℕ) → List Placed → List Record
-recordsOf frame ps = map (fromFrame frame) ps
 
 -- of what a step found at an offset: where that is no command, the record of no command
 abbrev pub recordFound : (frame at : ℕ) → Answer (Found Cmd) → Record

@@ -25,7 +25,7 @@ use Rattle.creators.specs.Setters.{isMargin, marginAt, dwellAt, lowBytes, secon
 use Rattle.walk.specs.Walk.{Walk, go, walkOf}
 use Rattle.build.specs.Build.{sumFrom, buildOf}
 use Rattle.build.specs.Equal.{EqualLists}
-use Rattle.build.specs.Handed.{fromFrame, recordsOf}
+use Rattle.build.specs.Handed.{fromFrame}
 use Rattle.build.specs.Records.{heldBy, recsIn, slotsOf}
 use Rattle.lent.specs.Records.{itemsOf}
 use Rattle.claims.specs.Examples.{
@@ -76,7 +76,7 @@ rule DlChannelAns = DlChannelAns·accepts
 abbrev Means : Example → Type 0
 Means (reads d bytes cmds ending) = walkOf (lengthOf (record { direction = d })) bytes ≡ record { cmds = cmds; ending = ending }
 Means (hands d frame bytes records ending) =
-    (recordsOf frame (walkOf (lengthOf (record { direction = d })) bytes .cmds) ≡ records) × (walkOf (lengthOf (record { direction = d })) bytes .ending ≡ ending)
+    (map (fromFrame frame) (walkOf (lengthOf (record { direction = d })) bytes .cmds) ≡ records) × (walkOf (lengthOf (record { direction = d })) bytes .ending ≡ ending)
 Means (frequency bytes hz) = (exactly 3 bytes ≡ given bytes) × (hertz bytes ≡ hz)
 Means (margin-reads b m) = (battery : ℕ) → marginOf (battery ∷ b ∷ []) ≡ m
 Means (no-margin m) = (image : List ℕ) → marginAt image m ≡ (refused 9, image)
@@ -117,7 +117,7 @@ of-functions (hands d frame bytes records ending) e = λ stream same.
     let L = lengthOf rules in
     record {
       cmds = walkOf L (now stream) .cmds;
-      same = ap (λ (s : List ℕ). recordsOf frame (walkOf L s .cmds)) same ∙ e .0;
+      same = ap (λ (s : List ℕ). map (fromFrame frame) (walkOf L s .cmds)) same ∙ e .0;
       by-offsets = subst (HandsOut (recordSteps rules frame stream) (fromFrame frame) (walkOf L (now stream) .cmds)) (ap (λ (s : List ℕ). walkOf L s .ending) same ∙ e .1)
           (records-of-the-walk rules stream frame .by-offsets);
       by-iterator = subst (HandsOut (recordIterator rules frame stream) (fromFrame frame) (walkOf L (now stream) .cmds)) (ap (λ (s : List ℕ). walkOf L s .ending) same ∙ e .1)

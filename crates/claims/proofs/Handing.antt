@@ -58,7 +58,7 @@ module _ (L : Rule) (s : List ℕ) (before coming : List Placed) (e : walkOf L s
   pub stands-behind : offsetOf coming (walkOf L s .ending) ≡ length (encode (bare before))
   stands-behind = sym (length-take-le (offsetOf coming (walkOf L s .ending)) s (owned .within)) ∙ ap length (owned .bytes)
 
-  pub found-there : foundAt L s (offsetOf coming (walkOf L s .ending)) ≡ given (firstOf coming (walkOf L s .ending))
+  found-there : foundAt L s (offsetOf coming (walkOf L s .ending)) ≡ given (firstOf coming (walkOf L s .ending))
   unfolding foundAt
   found-there =
       let k = offsetOf coming (walkOf L s .ending) in
@@ -66,7 +66,7 @@ module _ (L : Rule) (s : List ℕ) (before coming : List Placed) (e : walkOf L s
       ∙ ap (λ (w : Walk). given (firstMove w)) (Ownership.resumes L s before coming e)
 
 -- behind the first of those that are coming stands the next
-pub stands-next : (L : Rule) (s : List ℕ) (before : List Placed) (p : Placed) (ps : List Placed) → walkOf L s .cmds ≡ before ++ (p ∷ ps)
+stands-next : (L : Rule) (s : List ℕ) (before : List Placed) (p : Placed) (ps : List Placed) → walkOf L s .cmds ≡ before ++ (p ∷ ps)
     → (walkOf L s .cmds ≡ (before ++ (p ∷ [])) ++ ps) × (offsetOf ps (walkOf L s .ending) ≡ p .at + size (p .cmd))
 stands-next L s before p ps e =
     let split : walkOf L s .cmds ≡ (before ++ (p ∷ [])) ++ ps = e ∙ sym (append-assoc before (p ∷ []) ps) in (

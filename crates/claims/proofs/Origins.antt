@@ -18,7 +18,7 @@ use Rattle.walk.proofs.Ownership.{every-byte-owned}
 use Rattle.walk.proofs.Told.{step-tells}
 use Rattle.build.specs.Build.{Built, buildOf}
 use Rattle.build.specs.Equal.{EqualLists, asRec}
-use Rattle.build.specs.Handed.{fromFrame, recordsOf, handedAt}
+use Rattle.build.specs.Handed.{fromFrame, handedAt}
 use Rattle.build.specs.Records.{Rec, heldBy, frameless, packedAt, slotsOf}
 use Rattle.build.specs.Told.{toldHanded}
 use Rattle.build.specs.declared.handed.Handed.{Handed}
@@ -37,15 +37,15 @@ use Rattle.claims.proofs.Keeping.{both}
 -- ---- along the walk
 
 -- what the records of a list say
-frames-of : (frame : ℕ) (ps : List Placed) → Every (λ (r : Record). r .frame ≡ frame) (recordsOf frame ps)
+frames-of : (frame : ℕ) (ps : List Placed) → Every (λ (r : Record). r .frame ≡ frame) (map (fromFrame frame) ps)
 frames-of frame [] = tt
 frames-of frame (p ∷ ps) = (refl, frames-of frame ps)
 
-offsets-of : (frame : ℕ) (ps : List Placed) → map (λ (r : Record). r .offset) (recordsOf frame ps) ≡ map (λ (p : Placed). p .at) ps
+offsets-of : (frame : ℕ) (ps : List Placed) → map (λ (r : Record). r .offset) (map (fromFrame frame) ps) ≡ map (λ (p : Placed). p .at) ps
 offsets-of frame [] = refl
 offsets-of frame (p ∷ ps) = ap (λ (l : List ℕ). p .at ∷ l) (offsets-of frame ps)
 
-commands-of : (rules : Rules) (frame : ℕ) (ps : List Placed) → WellFormed (lengthOf rules) (bare ps) → EqualLists (map heldBy (recordsOf frame ps)) (map asRec (bare ps))
+commands-of : (rules : Rules) (frame : ℕ) (ps : List Placed) → WellFormed (lengthOf rules) (bare ps) → EqualLists (map heldBy (map (fromFrame frame) ps)) (map asRec (bare ps))
 commands-of rules frame [] w = tt
 commands-of rules frame (p ∷ ps) w =
     let b = p .cmd .body in

@@ -25,7 +25,7 @@ use Rattle.creators.specs.declared.tx_param_setup.TXParamSetupReqCreator.{TXPar
 use Rattle.creators.specs.declared.tx_param_setup.TXParamSetupReqCreatorAnswer.{TXParamSetupReqCreatorAnswer}
 use Rattle.walk.specs.Walk.{Placed, placed, Ending, end, stop}
 use Rattle.build.specs.Equal.{EqualLists}
-use Rattle.build.specs.Handed.{fromFrame, recordsOf}
+use Rattle.build.specs.Handed.{fromFrame}
 use Rattle.build.specs.Records.{frameless, heldBy, recsIn, slotsOf}
 use Rattle.build.specs.Build.{Built, total}
 use Rattle.build.specs.Build as Build
@@ -90,7 +90,7 @@ pub data Example : Type 0 where
 -- these records are handed out, by either entry, and then this ending
 pub record HandedOut (rules : Rules) (frame : ℕ) (stream : RefT (List ℕ)) (records : List Record) (ending : Ending) : Type 2 where
   pub cmds : List Placed
-  pub same : recordsOf frame cmds ≡ records
+  pub same : map (fromFrame frame) cmds ≡ records
   pub by-offsets : HandsOut (recordSteps rules frame stream) (fromFrame frame) cmds ending
   pub by-iterator : HandsOut (recordIterator rules frame stream) (fromFrame frame) cmds ending
 

@@ -17,7 +17,7 @@ use Rattle.walk.specs.Walk.{Placed, Walk, bare, walkOf}
 use Rattle.walk.specs.declared.step.Step.{Step}
 use Rattle.build.specs.Build.{Built}
 use Rattle.build.specs.Equal.{EqualLists, asRec}
-use Rattle.build.specs.Handed.{fromFrame, recordsOf, handedAt}
+use Rattle.build.specs.Handed.{fromFrame, handedAt}
 use Rattle.build.specs.Records.{heldBy, noRecord}
 use Rattle.build.specs.Told.{toldHanded}
 use Rattle.build.specs.declared.handed.Handed.{Handed}
@@ -55,7 +55,7 @@ module _ (rules : Rules) (stream : RefT (List ℕ)) where
   pub record RecordsOfTheWalk (frame : ℕ) : Type 2 where
     pub by-offsets : HandsOut (recordSteps rules frame stream) (fromFrame frame) (w .cmds) (w .ending)
     pub by-iterator : HandsOut (recordIterator rules frame stream) (fromFrame frame) (w .cmds) (w .ending)
-    pub stamped : Stamped frame (w .cmds) (recordsOf frame (w .cmds))
+    pub stamped : Stamped frame (w .cmds) (map (fromFrame frame) (w .cmds))
 
 -- at every offset, on the walk's way or not: the step is that of `step_at`; the record is the one that is defined, and where there is no command, that
 -- of no command
@@ -64,7 +64,7 @@ pub record RecordThere (rules : Rules) (frame : ℕ) (stream : RefT (List ℕ)) 
   pub defined : toldHanded r ≡ handedAt (lengthOf rules) frame (now stream) at
   pub none : NoCommand (toldStep (r .step)) → r .«record» ≡ noRecord
 
--- an iterator, asked for a record: it is the one at its index, and the iterator is then as `next` would leave it
+-- asked of an iterator, the record is the one at its index, and the iterator is then as `next` would leave it
 pub record RecordNext (frame : ℕ) (it : RefT MacCommandIterator) (r : Handed) (it' : MacCommandIterator) : Type 2 where
   pub there : RecordThere (now it .rules) frame (now it .«data») (now it .index) r
   pub moved : (q : Step) (κs : Lfts 2) (exit : RefT MacCommandIterator × Unit) → Admits next.ended (λ M 𝓤. next.clauses 𝓤) κs (it, tt) q exit → it' ≡ now (exit .0)

@@ -102,8 +102,8 @@ fn command_len(rules: Rules, stream: &[u8], at: usize, cid: u8, len: usize) -> u
     offset + 7 + name + payload + rest
 }
 
-// The length of the line that a step is listed by, but for what it begins with, whose length the caller adds. So that the sum has room, the
-// longest is named: 20 digits of an offset, a name of 16 letters, a payload of 10 digits, and 11 characters for the rest.
+// The length of the line that a step is listed by, but for what it begins with, whose length the caller adds. So that the sum has room, there is a
+// bound, though no line has all of it: 20 digits of an offset, a name of 16 letters, a payload of 10 digits, and 11 characters for the rest.
 pub(crate) fn line_len(rules: Rules, stream: &[u8], at: usize, found: Step) -> usize
     requires { ⌜ toldStep found ≡ stepAt (lengthOf rules) (now stream) at ⌝ }
     ensures { λ r. ⌜ r ≡ length (line (stepLine rules (now (stream .entry)) at (toldStep found))) ⌝ }
