@@ -54,7 +54,15 @@ impl Record {
         ensures { λ r. ⌜ toldJudged r ≡ judged (lengthOf rules) (heldBy self) ⌝ }
     {
         let length = rules.payload_len(self.cid);
-        measured(length, self.len)
+        let len = self.stated();
+        measured(length, len)
+    }
+
+    // The length that the record states, which alone is judged: not where it came from.
+    fn stated(self) -> usize
+        ensures { λ r. ⌜ r ≡ self .len ⌝ }
+    {
+        self.len
     }
 
     // The payload bytes that count: those before the length.

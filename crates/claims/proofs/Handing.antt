@@ -238,7 +238,7 @@ shown-whole L stream at (given (stopped n o)) e = refl
 shown-whole L stream at (refused n) e = refl
 
 -- a step in numbers, and the payload that is shown there
-told-whole : (L : Rule) (stream : RefT (List ℕ)) (at : ℕ) (x : Answer (Found Heading)) (p : RefT (List ℕ)) → x ≡ stepAt L (now stream) at
+pub told-whole : (L : Rule) (stream : RefT (List ℕ)) (at : ℕ) (x : Answer (Found Heading)) (p : RefT (List ℕ)) → x ≡ stepAt L (now stream) at
     → shown p ≡ payloadPart stream at (stepAt L (now stream) at) → withPayload x (now p) ≡ foundAt L (now stream) at
 told-whole L stream at x p t q =
     ap (λ (y : Answer (Found Heading)). withPayload y (now p)) t

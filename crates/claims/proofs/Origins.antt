@@ -3,7 +3,7 @@ use Prim.Native.Nat.{ℕ, _≤_}
 use mathlib.Core.Bool.{false}
 use mathlib.Core.List.{List, [], _∷_, map, append-nil}
 use mathlib.Core.Path.{_≡_, refl, sym, ap, _∙_, subst}
-use lib.ListN.{length}
+use lib.ListN.{length, take}
 use lib.Seq.{take-length}
 use denote.Ref.{RefT, now}
 use Rattle.bits.specs.Every.{Every}
@@ -11,14 +11,16 @@ use Rattle.table.specs.Answers.{Answer, given, refused}
 use Rattle.table.specs.Table.{lengthOf}
 use Rattle.table.specs.declared.rules.Rules.{Rules}
 use Rattle.table.proofs.Lengths.{at-most-five}
-use Rattle.walk.specs.Step.{Found, ended, command, stopped, Heading}
+use Rattle.walk.specs.Step.{Found, ended, command, stopped, Heading, heading, foundAt, inNumbers}
 use Rattle.walk.specs.Told.{toldStep}
-use Rattle.walk.specs.Walk.{Placed, WellFormed, bare, walkOf}
+use Rattle.walk.specs.Walk.{Cmd, Placed, WellFormed, bare, walkOf}
 use Rattle.walk.proofs.Ownership.{every-byte-owned}
+use Rattle.walk.proofs.Steps.{found-command}
 use Rattle.walk.proofs.Told.{step-tells}
+use Rattle.walk.proofs.step.payload_at.Reads as payload-at
 use Rattle.build.specs.Build.{Built, buildOf}
 use Rattle.build.specs.Equal.{EqualLists, asRec}
-use Rattle.build.specs.Handed.{fromFrame, handedAt}
+use Rattle.build.specs.Handed.{fromFrame, recordFound, handedAt}
 use Rattle.build.specs.Records.{Rec, heldBy, frameless, packedAt, slotsOf}
 use Rattle.build.specs.Told.{toldHanded}
 use Rattle.build.specs.declared.handed.Handed.{Handed}
@@ -28,10 +30,11 @@ use Rattle.build.proofs.Equal.{equal-self, equal-lists-built-alike}
 use Rattle.lent.specs.Records.{itemsOf}
 use Rattle.lent.proofs.Packing.{answers-as-packed}
 use Rattle.claims.specs.Building.{SlotsBuilt, StructsBuilt, FourBuilt}
-use Rattle.claims.specs.Handing.{NoCommand, recordSteps, recordIterator}
-use Rattle.claims.specs.Origins.{RecordsOfTheWalk, RecordThere, FromNoFrame, SameOutcome, BuildsAlike, PacksAlike, OriginsTell}
+use Rattle.claims.specs.Handing.{NoCommand, withPayload, recordSteps, recordIterator}
+use Rattle.claims.specs.Origins.{RecordsOfTheWalk, Says, RecordThere, FromNoFrame, SameOutcome, BuildsAlike, PacksAlike, OriginsTell}
 use Rattle.claims.proofs.Building.{slots-say, structs-say, four-says, slots-length-says, structs-length-says}
-use Rattle.claims.proofs.Handing.{next-says, next-record-says, hands-out, records-faithful, record-iterator-faithful}
+use Rattle.claims.specs.Outcomes.{Gives}
+use Rattle.claims.proofs.Handing.{told-whole, next-says, next-record-says, hands-out, records-faithful, record-iterator-faithful}
 use Rattle.claims.proofs.Keeping.{both}
 
 -- ---- along the walk
@@ -72,10 +75,36 @@ not-command (given ended) n = refl
 not-command (given (stopped k o)) n = refl
 not-command (refused k) n = refl
 
+-- the step's command, with the payload that is shown, is the one that stands there
+record-says : (rules : Rules) (frame : ℕ) (stream : RefT (List ℕ)) (at : ℕ) (r : Handed) → toldHanded r ≡ handedAt (lengthOf rules) frame (now stream) at
+    → (h : Heading) (next : ℕ) (p : RefT (List ℕ)) → toldStep (r .step) ≡ given (command h next) → Gives payload-at.Post (rules, (stream, (at, tt))) p
+    → Says frame at h (now p) (r .«record»)
+record-says rules frame stream at r e h next p t g =
+    let L = lengthOf rules in
+    let c : Cmd = record { cid = h .cid; body = now p } in
+    let found : _≡_ {A = Answer (Found Cmd)} (given (command c next)) (foundAt (lengthOf rules) (now stream) at) =
+    ap (λ (x : Answer (Found Heading)). withPayload x (now p)) (sym t) ∙ told-whole L stream at (toldStep (r .step)) p (ap (λ x. x .0) e) (g .1 .1) in
+    let is : r .«record» ≡ fromFrame frame (record { at = at; cmd = c }) = ap (λ x. x .1) e ∙ ap (recordFound frame at) (sym found) in
+    let numbers : _≡_ {A = Answer (Found Heading)} (given (command (heading (h .cid) (length (now p))) next)) (given (command h next)) =
+    ap inNumbers found ∙ sym (ap (λ x. x .0) e) ∙ t in
+    let same : heading (h .cid) (length (now p)) ≡ h = cc in
+    let len : length (now p) ≡ h .len = ap (λ (x : Heading). x .len) same in
+    let short : length (now p) ≤ 5 = at-most-five rules (h .cid) (length (now p)) (found-command L (now stream) (sym found) .known) in
+    record {
+      its-frame = ap (λ (q : Record). q .frame) is;
+      its-offset = ap (λ (q : Record). q .offset) is;
+      its-command = record {
+        cid = ap (λ (q : Record). q .cid) is;
+        len = ap (λ (q : Record). q .len) is ∙ len;
+        payload = ap (λ (q : Record). take (q .len) (q .payload)) is ∙ five-front (now p) short ∙ sym (take-length (now p)) ∙ ap (λ (n : ℕ). take n (now p)) len;
+      };
+    }
+
 record-there : (rules : Rules) (frame : ℕ) (stream : RefT (List ℕ)) (at : ℕ) (r : Handed) → toldHanded r ≡ handedAt (lengthOf rules) frame (now stream) at
     → RecordThere rules frame stream at r
 record-there rules frame stream at r e = record {
   its-step = λ q h. step-tells (ap (λ x. x .0) e ∙ sym (h .1 .1));
+  of-command = record-says rules frame stream at r e;
   defined = e;
   none = λ n.
       ap (λ x. x .1) e ∙ sym (no-record (lengthOf rules) (now stream) frame at (toldStep (r .step)) (sym (ap (λ x. x .0) e)) (not-command (toldStep (r .step)) n));

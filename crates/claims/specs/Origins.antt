@@ -6,17 +6,19 @@ use mathlib.Core.Path.{_≡_}
 use denote.Ref.{RefT, now}
 use contract.Lifetimes.{Lfts}
 use Rattle.bits.specs.Every.{Every}
+use Rattle.table.specs.Answers.{given}
 use Rattle.table.specs.Table.{lengthOf}
 use Rattle.table.specs.declared.rules.Rules.{Rules}
 use Rattle.payloads.specs.declared.uplink.UplinkMacCommand.{UplinkMacCommand}
 use Rattle.payloads.specs.declared.downlink.DownlinkMacCommand.{DownlinkMacCommand}
 use Rattle.creators.specs.declared.kinds.UplinkMacCommandCreator.{UplinkMacCommandCreator}
 use Rattle.creators.specs.declared.kinds.DownlinkMacCommandCreator.{DownlinkMacCommandCreator}
+use Rattle.walk.specs.Step.{command, Heading}
 use Rattle.walk.specs.Told.{toldStep}
 use Rattle.walk.specs.Walk.{Placed, Walk, bare, walkOf}
 use Rattle.walk.specs.declared.step.Step.{Step}
 use Rattle.build.specs.Build.{Built}
-use Rattle.build.specs.Equal.{EqualLists, asRec}
+use Rattle.build.specs.Equal.{Equal, EqualLists, asRec}
 use Rattle.build.specs.Handed.{fromFrame, handedAt}
 use Rattle.build.specs.Records.{heldBy, noRecord}
 use Rattle.build.specs.Told.{toldHanded}
@@ -25,6 +27,7 @@ use Rattle.build.specs.declared.record.Record.{Record}
 use Rattle.lent.specs.Packing.{Packed}
 use Rattle.lent.specs.declared.iterator.MacCommandIterator.{MacCommandIterator}
 use Rattle.walk.proofs.step.step_at.Reads as step-at
+use Rattle.walk.proofs.step.payload_at.Reads as payload-at
 use Rattle.build.proofs.handed.record_at.Reads as record-at
 use Rattle.build.proofs.record.Record.new.Reads as new
 use Rattle.build.proofs.record.Record.none.Reads as none
@@ -57,12 +60,20 @@ module _ (rules : Rules) (stream : RefT (List ℕ)) where
     pub by-iterator : HandsOut (recordIterator rules frame stream) (fromFrame frame) (w .cmds) (w .ending)
     pub stamped : Stamped frame (w .cmds) (map (fromFrame frame) (w .cmds))
 
--- at every offset, on the walk's way or not: the step is that of `step_at`; the record is the one that is defined, and where there is no command, that
--- of no command
+-- the record of a command that a step tells at an offset, with this payload
+pub record Says (frame at : ℕ) (h : Heading) (payload : List ℕ) (r : Record) : Type 0 where
+  pub its-frame : r .frame ≡ frame
+  pub its-offset : r .offset ≡ at
+  pub its-command : Equal (heldBy r) (record { cid = h .cid; len = h .len; bytes = payload })
+
+-- at every offset, on the walk's way or not: the step is that of `step_at`. Of a command the record says so, with the payload that `payload_at` shows;
+-- where there is no command, it is that of no command. What else stands in it is as defined
 pub record RecordThere (rules : Rules) (frame : ℕ) (stream : RefT (List ℕ)) (at : ℕ) (r : Handed) : Type 0 where
   pub its-step : (q : Step) → Gives step-at.Post (rules, (stream, (at, tt))) q → r .step ≡ q
-  pub defined : toldHanded r ≡ handedAt (lengthOf rules) frame (now stream) at
+  pub of-command : (h : Heading) (next : ℕ) (p : RefT (List ℕ)) → toldStep (r .step) ≡ given (command h next) → Gives payload-at.Post (rules, (stream, (at, tt))) p
+      → Says frame at h (now p) (r .«record»)
   pub none : NoCommand (toldStep (r .step)) → r .«record» ≡ noRecord
+  pub defined : toldHanded r ≡ handedAt (lengthOf rules) frame (now stream) at
 
 -- asked of an iterator, the record is the one at its index, and the iterator is then as `next` would leave it
 pub record RecordNext (frame : ℕ) (it : RefT MacCommandIterator) (r : Handed) (it' : MacCommandIterator) : Type 2 where
