@@ -7,9 +7,9 @@ use lib.ListN.{length}
 use Rattle.bits.specs.Memory.{over}
 use Rattle.table.specs.declared.rules.Direction.the-variants.{Down, Up}
 use Rattle.payloads.specs.Commands.{sentUp, sentDown}
-use Rattle.text.specs.Characters.{ascii, characterOf}
+use Rattle.text.specs.Characters.{ascii, characterOf, letterOf}
 use Rattle.text.specs.Lines.{line}
-use Rattle.listings.specs.Listing.{letterOf, listingOf}
+use Rattle.listings.specs.Listing.{listingOf}
 
 -- the line for an input that is no capture
 unfoldable pub badInput : List ℕ

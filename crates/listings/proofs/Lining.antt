@@ -18,14 +18,14 @@ use Rattle.table.specs.Table.{Row, rows, sideOf, lengthIn, lengthOf, nameIn, na
 use Rattle.fields.specs.Mask.{channelOn, channelsOn, howMany, statusesOf}
 use Rattle.fields.specs.Places.{bytesAt, LinkADRReq·channelMask}
 use Rattle.fields.proofs.Lists.{length-tabulate}
-use Rattle.text.specs.Characters.{ascii}
+use Rattle.text.specs.Characters.{ascii, letterOf}
 use Rattle.text.specs.Decimal.{decimal}
 use Rattle.text.specs.Hex.{hexByte, hexOf, hexField}
 use Rattle.text.specs.Lines.{Line, joined, line}
 use Rattle.text.proofs.Decimals.{decimal-at-most}
 use Rattle.text.proofs.Naming.{namesPass, every-name}
 use Rattle.walk.specs.Walk.{placed, end, stop}
-use Rattle.listings.specs.Listing.{channels, letterOf, commandLine, lastLine, inFrame}
+use Rattle.listings.specs.Listing.{channels, commandLine, lastLine, inFrame}
 use Rattle.listings.specs.Passes.{bodyAt, stamp, before, behind, isCounted}
 
 -- ---- which command has a count

@@ -9,12 +9,12 @@ use Rattle.bits.specs.Memory.{writtenAt}
 use Rattle.bits.proofs.Memory.{Left, Puts, puts-of, puts-more, puts-length, written-of}
 use Rattle.table.specs.declared.rules.Rules.{Rules}
 use Rattle.table.specs.Table.{nameOf}
-use Rattle.text.specs.Characters.{ascii}
+use Rattle.text.specs.Characters.{ascii, letterOf}
 use Rattle.text.specs.Decimal.{decimal}
 use Rattle.text.specs.Hex.{hexByte, hexField}
 use Rattle.text.specs.Lines.{Line, joined, line}
 use Rattle.walk.specs.Walk.{placed, end, stop}
-use Rattle.listings.specs.Listing.{channels, letterOf, commandLine, lastLine, inFrame}
+use Rattle.listings.specs.Listing.{channels, commandLine, lastLine, inFrame}
 use Rattle.listings.specs.Passes.{stamp, before, behind, isCounted}
 use Rattle.listings.proofs.Lining.{before-long, command-long, command-parts, counted-long, end-long, frame-long, frame-parts, letter-long, stamp-long, stop-long}
 

@@ -11,7 +11,7 @@ use Rattle.table.specs.declared.rules.Direction.{Direction}
 use Rattle.table.specs.declared.rules.Direction.the-variants.{Down, Up}
 use Rattle.table.specs.declared.rules.Rules.{Rules}
 use Rattle.table.specs.Table.{rows, nameOf}
-use Rattle.text.specs.Characters.{ascii}
+use Rattle.text.specs.Characters.{ascii, letterOf}
 use Rattle.text.specs.Decimal.{decimal}
 use Rattle.text.specs.Hex.{hexByte, hexOf}
 use Rattle.text.specs.Lines.{Line, Plain, PlainLine, PlainText}
@@ -20,7 +20,7 @@ use Rattle.text.proofs.Hexes.{hex-injective, hex-plain, field-injective, field-
 use Rattle.text.proofs.Lines.{head-is, tail-is, text-apart, visible, visible-plain}
 use Rattle.text.proofs.Naming.{namesPass, every-name}
 use Rattle.walk.specs.Walk.{Cmd, Placed, Ending, end, stop, Walk, finish, after}
-use Rattle.listings.specs.Listing.{channels, letterOf, commandLine, lastLine, inFrame, linesOf}
+use Rattle.listings.specs.Listing.{channels, commandLine, lastLine, inFrame, linesOf}
 use Rattle.listings.specs.Passes.{isCounted}
 use Rattle.listings.specs.Telling.{TextFixesWalk}
 

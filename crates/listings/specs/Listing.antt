@@ -4,21 +4,15 @@ use Prim.Native.String.{String}
 use mathlib.Core.Bool.{cond}
 use mathlib.Core.List.{List, [], _∷_, map}
 use lib.Text.{eqt}
-use Rattle.table.specs.declared.rules.Direction.{Direction}
-use Rattle.table.specs.declared.rules.Direction.the-variants.{Down, Up}
 use Rattle.table.specs.declared.rules.Rules.{Rules}
 use Rattle.table.specs.Table.{lengthOf, nameOf, named}
 use Rattle.fields.specs.Mask.{channelsOn}
 use Rattle.fields.specs.Places.{bytesAt, LinkADRReq·channelMask}
 use Rattle.walk.specs.Walk.{Placed, Ending, end, stop, Walk, walkOf}
-use Rattle.text.specs.Characters.{ascii}
+use Rattle.text.specs.Characters.{ascii, letterOf}
 use Rattle.text.specs.Decimal.{decimal}
 use Rattle.text.specs.Hex.{hexByte, hexField}
 use Rattle.text.specs.Lines.{Line, text}
-
-abbrev pub letterOf : Direction → String
-letterOf Down = "D"
-letterOf Up = "U"
 
 -- the channels that the mask of a LinkADRReq switches on
 abbrev pub channels : List ℕ → ℕ

@@ -11,11 +11,11 @@ use Rattle.table.specs.declared.rules.Rules.{Rules}
 use Rattle.table.specs.Table.{lengthOf, nameOf, named}
 use Rattle.walk.specs.Step.{Found, ended, command, stopped, Heading}
 use Rattle.walk.specs.Walk.{placed, end, stop}
-use Rattle.text.specs.Characters.{ascii}
+use Rattle.text.specs.Characters.{ascii, letterOf}
 use Rattle.text.specs.Decimal.{decimal}
 use Rattle.text.specs.Hex.{hexByte}
 use Rattle.text.specs.Lines.{Line}
-use Rattle.listings.specs.Listing.{letterOf, commandLine, lastLine}
+use Rattle.listings.specs.Listing.{commandLine, lastLine}
 
 -- the payload of a command at an offset
 abbrev pub bodyAt : List ℕ → (at len : ℕ) → List ℕ

@@ -22,10 +22,10 @@ ghost use Rattle.table.specs.Table.{lengthOf};
 ghost use Rattle.walk.specs.Step.{stepAt};
 ghost use Rattle.walk.specs.Told.{toldStep};
 ghost use Rattle.walk.specs.Walk.{placed, end, stop};
-ghost use Rattle.text.specs.Characters.{ascii};
+ghost use Rattle.text.specs.Characters.{ascii, letterOf};
 ghost use Rattle.text.specs.Hex.{hexField};
 ghost use Rattle.text.specs.Lines.{line};
-ghost use Rattle.listings.specs.Listing.{channels, letterOf, commandLine, lastLine, inFrame};
+ghost use Rattle.listings.specs.Listing.{channels, commandLine, lastLine, inFrame};
 ghost use Rattle.listings.specs.Passes.{bodyAt, stepLine, stamp, before, behind, isCounted, Stands};
 
 fn letter(rules: Rules) -> u8

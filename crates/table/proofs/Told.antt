@@ -23,6 +23,8 @@ use Rattle.table.specs.declared.refusal.Refusal.the-variants.{
   FOptsTooLong,
   PayloadWithoutPort,
   ListTooLong,
+  PendingFull,
+  BadTraceLine,
 }
 use Rattle.table.specs.declared.refusal.Verdict.{Verdict}
 use Rattle.table.specs.declared.refusal.Verdict.the-variants.{Accepted, Refused}
@@ -49,12 +51,14 @@ refusals =
     BothPlaces ∷
     FOptsTooLong ∷
     PayloadWithoutPort ∷
-    ListTooLong ∷ []
+    ListTooLong ∷
+    PendingFull ∷
+    BadTraceLine ∷ []
 
 -- the refusal of a number
 unfoldable pub numbered : ℕ → Refusal
 unfolding refusals
-numbered n = getD refusals (n - 1) ListTooLong
+numbered n = getD refusals (n - 1) BadTraceLine
 
 pub numbered-number : (r : Refusal) → numbered (numberOf r) ≡ r
 unfolding numbered refusals
@@ -74,6 +78,8 @@ numbered-number BothPlaces = refl
 numbered-number FOptsTooLong = refl
 numbered-number PayloadWithoutPort = refl
 numbered-number ListTooLong = refl
+numbered-number PendingFull = refl
+numbered-number BadTraceLine = refl
 
 lengthTold : Option ℕ → Length
 lengthTold none = Unknown

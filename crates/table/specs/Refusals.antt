@@ -1,4 +1,4 @@
--- The numbers of the refusals (RULES: R1 to R16).
+-- The numbers of the refusals (RULES: R1 to R18).
 use Prim.Native.Nat.{ℕ}
 use Rattle.table.specs.declared.refusal.Refusal.{Refusal}
 use Rattle.table.specs.declared.refusal.Refusal.the-variants.{
@@ -18,6 +18,8 @@ use Rattle.table.specs.declared.refusal.Refusal.the-variants.{
   FOptsTooLong,
   PayloadWithoutPort,
   ListTooLong,
+  PendingFull,
+  BadTraceLine,
 }
 
 abbrev pub numberOf : Refusal → ℕ
@@ -37,3 +39,5 @@ numberOf BothPlaces = 13
 numberOf FOptsTooLong = 14
 numberOf PayloadWithoutPort = 15
 numberOf ListTooLong = 16
+numberOf PendingFull = 17
+numberOf BadTraceLine = 18

@@ -1,4 +1,4 @@
-// The refusals, R1 to R16 of docs/RULES.md in their order. Each is given when its line says so, and in no other case.
+// The refusals, R1 to R18 of docs/RULES.md in their order. Each is given when its line says so, and in no other case.
 ghost use mathlib.Core.Path.{_≡_};
 ghost use Rattle.table.specs.Refusals.{numberOf};
 
@@ -35,6 +35,10 @@ pub enum Refusal {
     PayloadWithoutPort,
     // Over 4,096 records.
     ListTooLong,
+    // Ledger: a ninth open request of one CID.
+    PendingFull,
+    // Ledger: a line of a trace that has not the form.
+    BadTraceLine,
 }
 
 impl Refusal {
@@ -59,6 +63,8 @@ impl Refusal {
             Refusal::FOptsTooLong => 14,
             Refusal::PayloadWithoutPort => 15,
             Refusal::ListTooLong => 16,
+            Refusal::PendingFull => 17,
+            Refusal::BadTraceLine => 18,
         }
     }
 }

@@ -2,8 +2,7 @@
 use mathlib.Core.Path.{sym, ap}
 use borrow.Author.Needs.{needs}
 use Rattle.table.specs.declared.rules.Direction.{Direction}
-use Rattle.text.specs.Characters.{ascii}
-use Rattle.listings.specs.Listing.{letterOf}
+use Rattle.text.specs.Characters.{ascii, letterOf}
 use Rattle.listings.proofs.line.letter.Statement.{statement}
 use Rattle.listings.proofs.line.letter.Tie as tie
 
