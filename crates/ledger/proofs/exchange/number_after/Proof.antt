@@ -1,0 +1,16 @@
+-- `number_after` meets its contract. Assumes nothing.
+use mathlib.Core.Path.{sym}
+use borrow.Author.Needs.{needs}
+use borrow.Author.Tests.{lt-ltb, le-ltb}
+use native.Mathlib.Omega.{arith}
+use Rattle.ledger.proofs.exchange.number_after.Statement.{statement}
+use Rattle.ledger.proofs.exchange.number_after.Tie as tie
+
+returns : tie.Need-returns
+returns c = rw (lt-ltb _ _ (c .if1 .taken))
+
+returns-2 : tie.Need-returns-2
+returns-2 c = rw (le-ltb _ _ (c .if1 .left))
+
+pub number-after-spec : {M : Type 1} → statement M
+number-after-spec = tie.close (tie.spec (λ c. search needs) returns returns-2)

@@ -1,0 +1,11 @@
+pub mod Asked
+pub mod Book
+pub mod Claims
+pub mod Events
+pub mod Lines
+pub mod Matching
+pub mod Memory
+pub mod Parents
+pub mod Settings
+pub mod Trace
+pub mod Working
