@@ -56,12 +56,6 @@ none-tail (a ∷ l) e = let no-way : _≡_ {A = ℕ} 0 1 = cc in absurd (omega a
 
 -- ---- the open requests of a CID
 
-pub open-few : (p : List ℕ) (c : ℕ) → getD p (512 + c) 0 < 8 → getD p (512 + c) 0 ≡ length (pendingIn p c)
-open-few p c h = sym (length-tabulate _ _ ∙ rw (lt-ltb (getD p (512 + c) 0) 8 h))
-
-pub open-many : (p : List ℕ) (c : ℕ) → 8 ≤ getD p (512 + c) 0 → 8 ≡ length (pendingIn p c)
-open-many p c h = sym (length-tabulate _ _ ∙ rw (le-ltb (getD p (512 + c) 0) 8 h))
-
 open-at : (p : List ℕ) (c k : ℕ) → k < length (pendingIn p c) → head? (drop k (pendingIn p c)) ≡ some (requestAt c p (32 * c + 4 * k))
 open-at p c k h =
     let l : length (pendingIn p c) ≡ atMost 8 (getD p (512 + c) 0) = length-tabulate _ _ in

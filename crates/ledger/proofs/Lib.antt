@@ -3,7 +3,6 @@ pub mod Asking
 pub mod Cases
 pub mod Determined
 pub mod Following
-pub mod Fresh
 pub mod Judging
 pub mod LineByLine
 pub mod Matches

@@ -488,18 +488,3 @@ module _ (t : List ℕ) (at : ℕ) {v a : ℕ} (means : v ≡ valueOf (numberIn 
       → fieldTold r b ≡ from (a + 3) (fieldIn (drop (a + 3) t))
       → cond {A = Option (TraceLine × ℕ)} (r .ok) (some (record { frame = v; direction = x; stream = take (r .len) b }, r .next)) none ≡ frontAt t at
   line-told {x} n h e r b f = field-line (r .ok) v x (take (r .len) b) (r .next) ∙ ap (withField v x) f ∙ sym (line-parts n h e)
-
--- ---- for a caller of `line_at`: how the lines of the text go on
-
-abbrev pub toldLine : LineAt → (buffer : List ℕ) → TraceLine
-toldLine r b = record { frame = r .frame; direction = r .direction; stream = take (r .len) b }
-
-module _ (t : List ℕ) (at : ℕ) (r : LineAt) (b : List ℕ) (told : lineTold r b ≡ frontAt t at) where
-  pub line-on : r .ok ≡ true → LineRead t at (toldLine r b) (r .next)
-  line-on e =
-      line-read t at (toldLine r b) (r .next)
-      (sym told ∙ ap (λ (q : Bool). cond {A = Option (TraceLine × ℕ)} q (some (toldLine r b, r .next)) none) e)
-
-  pub line-off : at < length t → r .ok ≡ false → linesOf (drop at t) ≡ none ∷ []
-  line-off h e =
-      none-read t at h (sym told ∙ ap (λ (q : Bool). cond {A = Option (TraceLine × ℕ)} q (some (toldLine r b, r .next)) none) e)

@@ -1,4 +1,4 @@
--- What is asked of a ledger, as it is answered (RULES: X8 to X12): a setting's parent, and an entry of the list.
+-- What is asked of a ledger, as it is answered (RULES: X11, X12, X16): a setting's parent, and an entry of the list.
 use Prim.Native.Nat.{ℕ, _+_, _*_}
 use mathlib.Core.Bool.{true, false, cond, _&&_}
 use mathlib.Core.List.{List}

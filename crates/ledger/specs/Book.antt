@@ -1,4 +1,4 @@
--- What a replay makes of a ledger (RULES: X13 to X17), for every ledger, reached or not.
+-- What a replay makes of a ledger (RULES: X13 to X15), for every ledger, reached or not.
 use Prim.Native.Nat.{ℕ, _+_, _*_, _/_}
 use mathlib.Core.Bool.{Bool, true, false, cond}
 use mathlib.Core.List.{List, [], _∷_, _++_, head?, tail}

@@ -1,6 +1,6 @@
--- What is claimed of the ledger (RULES: X5 to X17), of every text that is replayed from a fresh ledger. Each claim is proved: those on settings in
--- proofs/Parenting.antt (higher channels: proofs/Replaying.antt), on the list in proofs/Notes.antt, on texts in proofs/Lines.antt, on the events of a
--- line in proofs/Walked.antt. A past is a list of events, the latest first.
+-- What is claimed of the ledger (RULES: X5 to X15), of every text that is replayed from a fresh ledger. Each claim is proved: those on settings in
+-- proofs/Parenting.antt (higher channels: proofs/Replaying.antt), on the list in proofs/Notes.antt, on texts in proofs/LineByLine.antt, on the
+-- events of a line in proofs/Walked.antt. A past is a list of events, the latest first.
 use Prim.Native.Nat.{ℕ, _+_, _*_, _/_, _≤_}
 use mathlib.Core.Bool.{true, false, cond}
 use mathlib.Core.List.{List, [], _∷_, _++_, map, reverse}

@@ -2,6 +2,7 @@
 // will find is known from the open requests before it and from how many commands of each CID went before in the line.
 use crate::commands::is_request;
 use crate::commands::says_yes;
+use crate::memory::waiting;
 use table::Rules;
 use walk::Step;
 use walk::step_at;
@@ -17,17 +18,6 @@ ghost use Rattle.ledger.specs.Memory.{requestAt, pendingIn};
 ghost use Rattle.ledger.specs.Parents.{broughtBy};
 ghost use Rattle.ledger.specs.Settings.{isBeyond};
 ghost use Rattle.ledger.specs.Working.{replyOf, Judges};
-
-// How many requests of a CID are open.
-fn open_of(pending: &[u64; 528], cid: usize) -> usize
-    requires { ⌜ cid < 16 ⌝ }
-    ensures { λ r. ⌜ r ≡ length (pendingIn (now (pending .entry)) cid) ⌝ }
-    ensures { λ r. ⌜ r ≤ 8 ⌝ }
-{
-    let at = 512 + cid;
-    let n = pending[at];
-    if n < 8 { n as usize } else { 8 }
-}
 
 // Whether the low byte of a request's payload is the index of no channel that is held.
 fn is_far(number: u64) -> bool
@@ -59,7 +49,7 @@ fn is_due(pending: &[u64; 528], cid: usize, before: usize, yea: bool) -> bool
     requires { ⌜ cid < 16 ⌝ }
     ensures { λ r. ⌜ bitOf r ≡ length (broughtBy (replyOf cid yea 0 0 0) (head? (drop before (pendingIn (now (pending .entry)) cid)))) ⌝ }
 {
-    let open = open_of(pending, cid);
+    let open = waiting(pending, cid);
     if open <= before {
         return true;
     }
@@ -88,7 +78,7 @@ fn need_of(
 {
     let c = cid as usize;
     if is_request(rules, cid) {
-        let open = open_of(pending, c);
+        let open = waiting(pending, c);
         let free = 8 - open;
         return if before < free { 0 } else { 17 };
     }

@@ -4,14 +4,23 @@ use borrow.Author.Needs.{needs}
 use native.Mathlib.Omega.{arith}
 use lib.ListN.{take, drop}
 use Rattle.ledger.specs.Events.{agreesWith}
+use Rattle.ledger.proofs.MemoryPending.{pending-few}
 use Rattle.ledger.proofs.Judging.{need-none, need-full, need-entry, need-clear}
 use Rattle.ledger.proofs.judge.need_of.Statement.{statement}
 use Rattle.ledger.proofs.judge.need_of.Tie as tie
 
+sub-free : tie.Need-sub-free
+sub-free c =
+    let a = c .before .before .before .before .args in
+    let o = c .waiting .ensures in
+    let f = pending-few (a .pending .now) (a .cid) in
+    omega arith
+
 returns : tie.Need-returns
 returns c =
     let a = c .before .before .before .before .before .args in
-    let o = c .before .open-of .ensures .0 in
+    let o = c .before .waiting .ensures in
+    let f = pending-few (a .pending .now) (a .cid) in
     let q = c .before .before .before in
     let h = c .if2 .taken in
     need-none (a .pending .now) (a .before) (a .cid) (agreesWith (a .cid) (take (a .len) (drop (a .body) (a .stream .now))))
@@ -20,7 +29,8 @@ returns c =
 returns-2 : tie.Need-returns-2
 returns-2 c =
     let a = c .before .before .before .before .before .args in
-    let o = c .before .open-of .ensures .0 in
+    let o = c .before .waiting .ensures in
+    let f = pending-few (a .pending .now) (a .cid) in
     let q = c .before .before .before in
     let h = c .if2 .left in
     need-full (a .pending .now) (a .before) (a .cid) (agreesWith (a .cid) (take (a .len) (drop (a .body) (a .stream .now))))
@@ -50,7 +60,7 @@ need-of-spec =
     (tie.spec
     (λ c κs. search needs)
     (λ c κs. search needs)
-    (λ c. search needs)
+    sub-free
     returns
     returns-2
     (λ c κs. search needs)
