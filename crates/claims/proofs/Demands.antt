@@ -6,6 +6,8 @@ use Rattle.claims.proofs.Choosing.{chooser}
 use Rattle.claims.proofs.Examples.{examples-hold}
 use Rattle.claims.proofs.Flags.{flags-tell}
 use Rattle.claims.proofs.Keeping.{refusals-keep, masks-tell}
+use Rattle.claims.proofs.Ledger.{ledger-tells}
+use Rattle.claims.proofs.LedgerExamples.{examples-held}
 use Rattle.claims.proofs.Listing.{listings-tell}
 use Rattle.claims.proofs.Origins.{origins-tell}
 use Rattle.claims.proofs.Owning.{one-owner, next-is-step}
@@ -25,4 +27,5 @@ demands = record {
   by-hand = by-hand;
   chooser = record { so = chooser };
   listings-tell = listings-tell;
+  ledger-tells = ledger-tells examples-held;
 }

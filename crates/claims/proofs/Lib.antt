@@ -6,6 +6,8 @@ pub mod Examples
 pub mod Flags
 pub mod Handing
 pub mod Keeping
+pub mod Ledger
+pub mod LedgerExamples
 pub mod Listing
 pub mod Lists
 pub mod Origins

@@ -1,6 +1,6 @@
--- The demands (RULES: D1 to D3), each as one statement, and what holds of masks, command types, the seconds, where a command came from, the chooser
--- and the listing. They speak of functions: each holds of every outcome that the contracts of the public functions admit, so a body that is changed
--- together with its contract can't pass unless the sentence still holds of it.
+-- The demands (RULES: D1 to D3), each as one statement, and what holds of masks, command types, the seconds, where a command came from, the chooser,
+-- the listing and the ledger. They speak of functions: each holds of every outcome that the contracts of the public functions admit, so a body that
+-- is changed together with its contract can't pass unless the sentence still holds of it.
 use Prim.Native.Nat.{ℕ}
 use mathlib.Core.List.{List}
 use denote.Ref.{RefT}
@@ -11,6 +11,7 @@ use Rattle.claims.specs.Choosing.{Chooser}
 use Rattle.claims.specs.Examples.{ExamplesHold, Lifted}
 use Rattle.claims.specs.Flags.{FlagsTell}
 use Rattle.claims.specs.Keeping.{RefusalsKeep, MasksTell}
+use Rattle.claims.specs.Ledger.{LedgerTells}
 use Rattle.claims.specs.Listing.{ListingsTell}
 use Rattle.claims.specs.Origins.{OriginsTell}
 use Rattle.claims.specs.Owning.{OneOwner, NextIsStep}
@@ -40,3 +41,5 @@ pub record Demands : Type 2 where
   pub chooser : Lifted Chooser
   -- L1 to L9, L11 and L13: the listing says what is read
   pub listings-tell : ListingsTell
+  -- X1 to X17: the ledger names each setting's parent, none is missing and none invented; and D1 as it reads there
+  pub ledger-tells : LedgerTells

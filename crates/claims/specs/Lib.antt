@@ -6,6 +6,7 @@ pub mod Examples
 pub mod Flags
 pub mod Handing
 pub mod Keeping
+pub mod Ledger
 pub mod Listing
 pub mod Origins
 pub mod Outcomes
