@@ -20,8 +20,8 @@ use Rattle.fields.proofs.Lists.{length-tabulate}
 use Rattle.walk.specs.Walk.{Walk, walkOf}
 use Rattle.ledger.specs.Asked.{inHand}
 use Rattle.ledger.specs.Book.{Book, noted, decided, answering, step, onward, steps, taken, going, takenAll, replayed}
-use Rattle.ledger.specs.Claims.{Exact, faultOf, countOf, fresh, room, walkOrigins}
-use Rattle.ledger.specs.Events.{Request, Reply, Event, request, reply, stopAt, rulesFor, eventsOf, following, events}
+use Rattle.ledger.specs.Claims.{Exact, faultOf, countOf, fresh, roomIn}
+use Rattle.ledger.specs.Events.{Request, Reply, Event, request, reply, stopAt, walkEvents, rulesFor, eventsOf, following, events}
 use Rattle.ledger.specs.Memory.{heldIn, bookOf, noteAt}
 use Rattle.ledger.specs.Parents.{Shown, shown, Note}
 use Rattle.ledger.specs.Settings.{
@@ -49,11 +49,12 @@ use Rattle.ledger.specs.declared.exchange.Replayed.{Replayed}
 use Rattle.ledger.specs.declared.settings.Held.{Held}
 use Rattle.ledger.proofs.Asking.{fresh-is}
 use Rattle.ledger.proofs.LineByLine as Texts
+use Rattle.ledger.proofs.Matches.{queue-is-matching, stray-is-unmatched, open-are-unanswered}
 use Rattle.ledger.proofs.Notes.{list-exactly, listed-is-one}
 use Rattle.ledger.proofs.Parenting.{parents-exactly, exact-is-one, effects-in-order}
 use Rattle.ledger.proofs.Replaying.{higher-not-held}
 use Rattle.ledger.proofs.Tracing.{front-read, read-is-inverse, lines-none, lines-some, trace-read-back}
-use Rattle.ledger.proofs.Walked as Walked
+use Rattle.ledger.proofs.Walking.{named-either}
 use Rattle.claims.specs.Ledger.{
   Replays,
   FromNew,
@@ -67,10 +68,10 @@ use Rattle.claims.specs.Ledger.{
   FirstFault,
   RefusesExactly,
   Same,
-  Kept,
-  RefusalsKeep,
+  KeptLines,
+  RefusedLineKeeps,
   FormIs,
-  LineByLine,
+  FedAsItComes,
   BooksTell,
   NothingGuessed,
   Holds,
@@ -193,7 +194,7 @@ tells ls lent l after lawful e =
     let all : takenAll (map some ls) (fresh lent) ≡ (accepted, 0, bookOf l after) = ap (λ (x : Lines). takenAll x (fresh lent)) (sym read) ∙ e in
     let list = list-exactly lent (writtenAll ls) ls (bookOf l after) read e in
     record {
-      taken = ap (λ (b : Book). b .lines) (Texts.whole-book lent ls (bookOf l after) all);
+      counted = ap (λ (b : Book). b .lines) (Texts.whole-book lent ls (bookOf l after) all);
       parents = λ σ h g.
           subst (Exact σ (reverse (events 0 ls))) (sym (told-is σ l h g)) (parents-exactly lent (writtenAll ls) ls (bookOf l after) read e σ);
       notes = tabulate (l .listed) (noteAt after);
@@ -311,7 +312,7 @@ module _ (t lent : List ℕ) (k n : ℕ) (b : Book) where
         line = h .number ∙ ap (λ (ls : List TraceLine). countOf (length ls + 1)) same;
         before = taken-alone (fresh lent) (p .at) (p .good-are) ∙ h .before;
         why =
-            ap₂ (λ (o : Option TraceLine) (ls : List TraceLine). faultOf (room lent) n o (reverse (events 0 ls))) (p .bad-is) (sym same) ∙ h .why;
+            ap₂ (λ (o : Option TraceLine) (ls : List TraceLine). faultOf (roomIn lent) n o (reverse (events 0 ls))) (p .bad-is) (sym same) ∙ h .why;
       }
 
   is-refused : FirstFault t lent k n b → replayed t (fresh lent) ≡ (refused k, n, b)
@@ -418,7 +419,7 @@ refused-form t c k why = (
 kept : (l : Ledger) (text list : RefT (List ℕ)) (r : Replayed) (after : List ℕ) (k : ℕ) (p : Parted (now text))
     → toldVerdict (r .verdict) ≡ refused k → r .line ≡ following (r .ledger .lines)
     → replayed (writtenAll (p .lines)) (bookOf l (now list)) ≡ (accepted, 0, bookOf (r .ledger) after)
-    → taken (front (p .rest)) (bookOf (r .ledger) after) ≡ refused k → Kept l text list r after k
+    → taken (front (p .rest)) (bookOf (r .ledger) after) ≡ refused k → KeptLines l text list r after k
 kept l text list r after k p v n before why = record {
   at = p;
   line = n;
@@ -434,7 +435,7 @@ kept l text list r after k p v n before why = record {
   form = refused-form (p .rest) (bookOf (r .ledger) after) k why;
 }
 
-refusals-keep : RefusalsKeep
+refusals-keep : RefusedLineKeeps
 refusals-keep l text list r after k g v =
     let b : Book = bookOf l (now list) in
     let c : Book = bookOf (r .ledger) after in
@@ -454,7 +455,7 @@ form-is = record {
 
 -- ---- line by line
 
-line-by-line : LineByLine
+line-by-line : FedAsItComes
 line-by-line l text more joined list lent r s after after' two joined-is lent-is one =
     let b : Book = bookOf l (now list) in
     let c : Book = bookOf (two .first .ledger) (now (two .left)) in
@@ -480,13 +481,14 @@ books-tell l m list list' e =
 -- ---- nothing is guessed
 
 nothing-guessed : (n : ℕ) (l : TraceLine) (stream : RefT (List ℕ)) → now stream ≡ l .stream → NothingGuessed n l stream
+unfolding eventsOf
 nothing-guessed n l stream e =
     let w : Walk = walkOf (lengthOf (rulesFor l)) (now stream) in
     record {
       cmds = w .cmds;
       ending = w .ending;
       read = Handing.reads (rulesFor l) stream;
-      events-are = Walked.nothing-guessed n l ∙ ap (λ (s : List ℕ). walkOrigins n (l .frame) (walkOf (lengthOf (rulesFor l)) s)) (sym e);
+      events-are = ap (λ (s : List ℕ). walkEvents (rulesFor l) n (l .frame) (walkOf (lengthOf (rulesFor l)) s)) (sym e);
     }
 
 pub ledger-tells : Every Holds examples → LedgerTells
@@ -498,6 +500,10 @@ ledger-tells hold = record {
   line-by-line = line-by-line;
   books-tell = books-tell;
   nothing-guessed = nothing-guessed;
+  named-either = named-either;
+  matching = queue-is-matching;
+  strays = stray-is-unmatched;
+  open-ones = open-are-unanswered;
   exact-is-one = exact-is-one;
   listed-is-one = listed-is-one;
   in-order = effects-in-order;

@@ -1,9 +1,9 @@
--- The ledger of parents (RULES: X1 to X17): what a replayed exchange tells, of every outcome that the contracts of `Ledger::new`, `replay_trace`, the
+-- The ledger of parents (RULES: X1 to X16, X18): what a replayed exchange tells, of every outcome that the contracts of `Ledger::new`, `replay_trace`, the
 -- fifteen methods that ask for a setting, and `entry_at` admit.
 use Prim.Native.Nat.{ℕ, _+_, _*_, _<_}
 use Prim.Native.String.{String}
 use mathlib.Core.Bool.{Bool, true, false, cond}
-use mathlib.Core.List.{List, [], _∷_, _++_, map, reverse, head?}
+use mathlib.Core.List.{List, [], _∷_, _++_, reverse, head?}
 use mathlib.Core.Logic.{_↔_}
 use mathlib.Core.Option.{Option, none, some}
 use mathlib.Core.Path.{_≡_}
@@ -27,11 +27,10 @@ use Rattle.ledger.specs.Claims.{
   faultOf,
   countOf,
   fresh,
-  room,
-  origin,
-  walkOrigins,
+  roomIn,
 }
-use Rattle.ledger.specs.Events.{place, rulesFor, eventsOf, following, events}
+use Rattle.ledger.specs.Events.{place, walkEvents, NamedEither, rulesFor, eventsOf, following, events}
+use Rattle.ledger.specs.Matching.{QueueIsMatching, StrayIsUnmatched, OpenAreUnanswered}
 use Rattle.ledger.specs.Memory.{bookOf}
 use Rattle.ledger.specs.Parents.{Shown, Note, beyond, stray, stopped}
 use Rattle.ledger.specs.Settings.{
@@ -66,7 +65,7 @@ use Rattle.ledger.proofs.Ledger.max_duty_cycle.Reads as max-duty-cycle
 use Rattle.ledger.proofs.Ledger.rx1_dr_offset.Reads as rx1-dr-offset
 use Rattle.ledger.proofs.Ledger.rx2_data_rate.Reads as rx2-data-rate
 use Rattle.ledger.proofs.Ledger.rx2_frequency.Reads as rx2-frequency
-use Rattle.ledger.proofs.Ledger.delay.Reads as delay-seconds
+use Rattle.ledger.proofs.Ledger.delay.Reads as delay-code
 use Rattle.ledger.proofs.Ledger.downlink_dwell_time.Reads as downlink-dwell-time
 use Rattle.ledger.proofs.Ledger.uplink_dwell_time.Reads as uplink-dwell-time
 use Rattle.ledger.proofs.Ledger.max_eirp.Reads as max-eirp
@@ -100,7 +99,7 @@ Asks maxDutyCycle l h = Gives max-duty-cycle.Post (l, tt) h
 Asks rx1DrOffset l h = Gives rx1-dr-offset.Post (l, tt) h
 Asks rx2DataRate l h = Gives rx2-data-rate.Post (l, tt) h
 Asks rx2Frequency l h = Gives rx2-frequency.Post (l, tt) h
-Asks delay l h = Gives delay-seconds.Post (l, tt) h
+Asks delay l h = Gives delay-code.Post (l, tt) h
 Asks downlinkDwellTime l h = Gives downlink-dwell-time.Post (l, tt) h
 Asks uplinkDwellTime l h = Gives uplink-dwell-time.Post (l, tt) h
 Asks maxEirp l h = Gives max-eirp.Post (l, tt) h
@@ -126,7 +125,7 @@ EntriesAre after ns =
 -- a ledger and its list tell of these lines, and of nothing else
 pub record Tells (lines : List TraceLine) (lent : List ℕ) (l : Ledger) (after : List ℕ) : Type 0 where
   -- so many were taken
-  pub taken : l .lines ≡ countOf (length lines)
+  pub counted : l .lines ≡ countOf (length lines)
   -- each setting: no parent, if no request writing it was answered yes; else the one answered last, what it says, and its mark
   pub parents : (σ : Setting) (h : Held) → Asks σ l h → Exact σ (reverse (events 0 lines)) (toldHeld h)
   -- the list: the strays, the yeses to requests for higher channels and the stops, in order; behind them the numbers are as they were lent
@@ -144,7 +143,7 @@ pub record TraceText (t : List ℕ) : Type 0 where
   pub text-is : t ≡ writtenAll lines
 
 -- a text that is accepted, replayed into a new ledger
-pub record Whole (text list : RefT (List ℕ)) (r : Replayed) (after : List ℕ) : Type 0 where
+pub record WholeText (text list : RefT (List ℕ)) (r : Replayed) (after : List ℕ) : Type 0 where
   pub text-is : TraceText (now text)
   pub line : r .line ≡ 0
   pub tells : Tells (text-is .lines) (now list) (r .ledger) after
@@ -152,7 +151,7 @@ pub record Whole (text list : RefT (List ℕ)) (r : Replayed) (after : List ℕ)
 abbrev pub WholeTells : Type 0
 WholeTells =
     (text list : RefT (List ℕ)) (r : Replayed) (after : List ℕ) → FromNew text list r after → toldVerdict (r .verdict) ≡ accepted
-    → Whole text list r after
+    → WholeText text list r after
 
 -- ---- refusals
 
@@ -170,7 +169,7 @@ pub record FirstFault (t lent : List ℕ) (k n : ℕ) (b : Book) : Type 0 where
   pub line : n ≡ countOf (length (at .lines) + 1)
   pub before : replayed (writtenAll (at .lines)) (fresh lent) ≡ (accepted, 0, b)
   -- 18 where the rest begins with no line, else 17 or 4 at the first command or stop of its stream that is at fault
-  pub why : faultOf (room lent) n (front (at .rest)) (reverse (events 0 (at .lines))) ≡ some k
+  pub why : faultOf (roomIn lent) n (front (at .rest)) (reverse (events 0 (at .lines))) ≡ some k
 
 -- a text is refused exactly so, and accepted exactly if no line of it is at fault. D1: ledger and list tell of the lines before that line
 pub record Decided (text list : RefT (List ℕ)) (r : Replayed) (after : List ℕ) : Type 0 where
@@ -188,7 +187,7 @@ pub record Same (r : Replayed) (after : List ℕ) (s : Replayed) (after' : List 
   pub book : bookOf (r .ledger) after ≡ bookOf (s .ledger) after'
 
 -- D1, from any ledger: lines, and then the one that is refused
-pub record Kept (l : Ledger) (text list : RefT (List ℕ)) (r : Replayed) (after : List ℕ) (k : ℕ) : Type 0 where
+pub record KeptLines (l : Ledger) (text list : RefT (List ℕ)) (r : Replayed) (after : List ℕ) (k : ℕ) : Type 0 where
   pub at : Parted (now text)
   -- its number is the next
   pub line : r .line ≡ following (r .ledger .lines)
@@ -202,10 +201,10 @@ pub record Kept (l : Ledger) (text list : RefT (List ℕ)) (r : Replayed) (after
   -- for its form, exactly if what is left begins with no lawful line
   pub form : (k ≡ 18) ↔ ((m : TraceLine) → BeginsWith (at .rest) m → ⊥)
 
-abbrev pub RefusalsKeep : Type 0
-RefusalsKeep =
+abbrev pub RefusedLineKeeps : Type 0
+RefusedLineKeeps =
     (l : Ledger) (text list : RefT (List ℕ)) (r : Replayed) (after : List ℕ) (k : ℕ) → Replays l text list r after
-    → toldVerdict (r .verdict) ≡ refused k → Kept l text list r after k
+    → toldVerdict (r .verdict) ≡ refused k → KeptLines l text list r after k
 
 -- ---- the text's form
 
@@ -226,8 +225,8 @@ pub record InTwo (l : Ledger) (text more list : RefT (List ℕ)) (r : Replayed) 
   pub two : Replays (first .ledger) more left r after
 
 -- come to the same as one, of both texts joined: a capture can be replayed as it comes
-abbrev pub LineByLine : Type 0
-LineByLine =
+abbrev pub FedAsItComes : Type 0
+FedAsItComes =
     (l : Ledger) (text more joined list lent : RefT (List ℕ)) (r s : Replayed) (after after' : List ℕ) → InTwo l text more list r after
     → now joined ≡ now text ++ now more → now lent ≡ now list → Replays l joined lent s after' → Same r after s after'
 
@@ -251,7 +250,7 @@ pub record NothingGuessed (n : ℕ) (l : TraceLine) (stream : RefT (List ℕ)) :
   pub cmds : List Placed
   pub ending : Ending
   pub read : ReadAs (rulesFor l) stream cmds ending
-  pub events-are : map origin (eventsOf n l) ≡ walkOrigins n (l .frame) (record { cmds = cmds; ending = ending })
+  pub events-are : eventsOf n l ≡ walkEvents (rulesFor l) n (l .frame) (record { cmds = cmds; ending = ending })
 
 -- ---- examples: a text, and what it comes to from a new ledger, with nine numbers lent, which is room for two entries
 
@@ -336,12 +335,21 @@ examples =
     halted "7\tU\t04\n70\tD\t0401\n8\tU\t04\n9\tU\t0404\n" 4 4 ((maxDutyCycle, set 2 70 0 1 false) ∷ []) (stray (place 1 7 0) ∷ []) ∷
     -- in a line the first at fault decides: a third stray, before a ninth request
     halted "70\tD\t04010402040304040405040604070408\n71\tD\t020A03020A03020A030409\n" 4 2 ((maxDutyCycle, none) ∷ []) [] ∷
+    -- and a ninth request, before a third entry
+    halted "7\tU\t0404\n70\tD\t04010402040304040405040604070408\n71\tD\t0409FF\n" 17 3 ((maxDutyCycle, none) ∷ [])
+    (stray (place 1 7 0) ∷ stray (place 1 7 1) ∷ []) ∷
+    -- the form comes before all else: what would be a third stray stands in a line that has it not
+    halted "7\tU\t0404\n7\tU\t04" 18 2 [] (stray (place 1 7 0) ∷ stray (place 1 7 1) ∷ []) ∷
     -- a frame's number has 32 bits
     whole "4294967295\tD\t0401\n7\tU\t04\n" ((maxDutyCycle, set 1 4_294_967_295 0 1 false) ∷ []) [] ∷
-    -- lines without the form: a number too large, an empty stream without its sign, small letters, an extra zero, no newline
+    -- lines without the form: a number too large, an empty stream without its sign, small letters, half a byte, an extra zero, no newline, nothing at
+    -- all, a carriage return
     halted "4294967296\tD\t0401\n" 18 1 ((maxDutyCycle, none) ∷ []) [] ∷
     halted "70\tD\t\n" 18 1 ((maxDutyCycle, none) ∷ []) [] ∷
     halted "70\tD\t040a\n" 18 1 ((maxDutyCycle, none) ∷ []) [] ∷
+    halted "70\tD\t040\n" 18 1 ((maxDutyCycle, none) ∷ []) [] ∷
+    halted "\n" 18 1 ((maxDutyCycle, none) ∷ []) [] ∷
+    halted "70\tD\t0401\r\n" 18 1 ((maxDutyCycle, none) ∷ []) [] ∷
     halted "70\tD\t0401\n07\tU\t04\n" 18 2 ((maxDutyCycle, none) ∷ []) [] ∷
     halted "70\tD\t0401\n7\tU\t04" 18 2 ((maxDutyCycle, none) ∷ []) [] ∷
     -- no line, and a line with no command
@@ -351,18 +359,24 @@ examples =
 -- ---- the claims
 
 pub record LedgerTells : Type 2 where
-  -- X8 to X12: of every text that is accepted, each setting names its parent exactly, and the list is exact
+  -- X9 to X12: of every text that is accepted, each setting names its parent exactly, and the list is exact
   pub whole-tells : WholeTells
-  -- X13 to X17: a text is refused exactly where its first line at fault is; and what a refusal leaves, of any ledger
+  -- X13, X14: a text is refused exactly where its first line at fault is; and what a refusal leaves, of any ledger
   pub refuses-exactly : RefusesExactly
-  pub refusals-keep : RefusalsKeep
+  pub refusals-keep : RefusedLineKeeps
   -- X1 to X4: the form of what is accepted
   pub form-is : FormIs
-  -- fed as it comes
-  pub line-by-line : LineByLine
+  -- X15: a capture can be fed as it comes
+  pub line-by-line : FedAsItComes
   pub books-tell : BooksTell
   -- X5 and X6: no command is stepped over
   pub nothing-guessed : (n : ℕ) (l : TraceLine) (stream : RefT (List ℕ)) → now stream ≡ l .stream → NothingGuessed n l stream
+  -- X6: whatever the table has is a request or an answer, and not both
+  pub named-either : NamedEither
+  -- X7: by the sentence and by computation an answer belongs to one request, and as many are open as are not answered
+  pub matching : QueueIsMatching
+  pub strays : StrayIsUnmatched
+  pub open-ones : OpenAreUnanswered
   -- what is exact is one thing only; read in the order of the trace it is a request, and later its answer; higher channels are never in it
   pub exact-is-one : ExactIsOne
   pub listed-is-one : ListedIsOne

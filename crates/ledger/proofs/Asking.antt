@@ -8,14 +8,15 @@ use mathlib.Core.Path.{_≡_, refl, ap₂, fun-ext}
 use native.Mathlib.Omega.{arith}
 use borrow.Author.Tests.{lt-ltb, le-ltb}
 use lib.Dec.{eqb, ltb}
-use lib.ListN.{length, getD, replicate, List·getD-eq-default}
+use lib.ListN.{getD, replicate}
 use Rattle.bits.specs.Bits.{bitOf, bitOn, field}
 use Rattle.fields.specs.Lists.{tabulate}
-use Rattle.ledger.specs.Asked.{freshLedger, inHand, rowAt, answered}
+use Rattle.ledger.specs.Asked.{freshLedger, inHand}
 use Rattle.ledger.specs.Events.{Request}
-use Rattle.ledger.specs.Memory.{fiveOf, requestAt, atMost, channelRow, rowOf, rowIn, heldIn, pendingIn, bookOf}
+use Rattle.ledger.specs.Memory.{fiveOf, requestAt, atMost, rowOf, rowIn, heldIn, pendingIn, bookOf}
 use Rattle.ledger.specs.Parents.{shown}
-use Rattle.ledger.specs.Settings.{Setting, channelFrequency, channelRates, downlinkFrequency, says, writer}
+use Rattle.ledger.specs.Rows.{rowAt, answered}
+use Rattle.ledger.specs.Settings.{Setting, says, writer}
 use Rattle.ledger.specs.declared.settings.Row.{Row}
 
 -- ---- a setting's parent
@@ -69,20 +70,6 @@ bit-said k b = below-two (field k 1 b) (omega arith)
 none-in : (w : List ℕ) (c p : ℕ) → getD w (296 + p) 0 ≡ 0 → rowIn w c p ≡ []
 unfolding tabulate
 none-in w c p e = simp e
-
--- a channel over 15: its count would stand behind the numbers of every row
-past : (w : List ℕ) (c first i : ℕ) → length w ≡ 333 → 15 < i → rowIn w c (channelRow first i) ≡ []
-past w c first i e h = rw (le-ltb i 16 (omega arith)) (none-in w c 37 (List·getD-eq-default w 0 (omega arith)))
-
-module _ (w : List ℕ) (size : length w ≡ 333) (i : ℕ) (over : 15 < i) where
-  pub no-frequency : heldIn w (channelFrequency i) ≡ []
-  no-frequency = past w (writer (channelFrequency i) .cid) 5 i size over
-
-  pub no-rates : heldIn w (channelRates i) ≡ []
-  no-rates = past w (writer (channelRates i) .cid) 5 i size over
-
-  pub no-downlink : heldIn w (downlinkFrequency i) ≡ []
-  no-downlink = past w (writer (downlinkFrequency i) .cid) 21 i size over
 
 -- every number of zeros is zero, and so is what stands past them
 zeros : (n i : ℕ) → _≡_ {A = ℕ} (getD (replicate n 0) i 0) 0

@@ -1,26 +1,25 @@
 -- Lines taken one after another. Assumes nothing.
 use Prim.Native.Nat.{ℕ, _/_, _<_, _≤_}
 use mathlib.Core.Bool.{Bool, true, false, cond, not, true≢false}
-use mathlib.Core.List.{List, [], _∷_, head?, tail}
+use mathlib.Core.List.{List, [], _∷_, head?}
 use mathlib.Core.Logic.{_⊎_, inl, inr}
 use mathlib.Core.Option.{Option, none, some}
-use mathlib.Core.Path.{_≡_, refl, sym, ap, _∙_, subst}
+use mathlib.Core.Path.{_≡_, refl, sym, ap, _∙_}
 use native.Mathlib.Omega.{arith}
 use borrow.Author.Tests.{eqb-true, ne-eqb}
 use lib.Dec.{eqb, ltb}
 use lib.ListN.{length, take, drop}
 use Rattle.table.specs.Answers.{Answer, given, refused, Consent, accepted}
-use Rattle.table.specs.Table.{lengthOf}
 use Rattle.table.specs.declared.rules.Rules.{Rules}
-use Rattle.ledger.specs.Book.{Book, noted, opening, asked, decided, answering, step, onward, steps, counted, taken, going, takenAll, replayed}
+use Rattle.ledger.specs.Book.{Book, noted, asked, decided, answering, step, onward, steps, counted, taken, going, takenAll, replayed}
 use Rattle.ledger.specs.Events.{Request, Reply, Event, request, reply, stopAt, eventsOf, following, rulesFor}
 use Rattle.ledger.specs.Lines.{lineTold}
 use Rattle.ledger.specs.Parents.{Note}
 use Rattle.ledger.specs.Settings.{isBeyond}
 use Rattle.ledger.specs.Trace.{TraceLine, linesOf}
-use Rattle.ledger.specs.Working.{bookIn, faultIn, eventsFrom, frontAt, byTaken, atLine, toldNext, toldFault, lineAt, toldRun, Refuses}
+use Rattle.ledger.specs.Working.{bookIn, faultIn, eventsFrom, frontAt, byTaken, atLine, toldNext, toldRun, Refuses}
 use Rattle.ledger.specs.declared.lines.LineAt.{LineAt}
-use Rattle.ledger.proofs.Tracing.{lines-none, lines-end, line-read, none-read}
+use Rattle.ledger.proofs.Tracing.{lines-end, line-read, none-read}
 
 -- ---- the numbers that a replay refuses with
 

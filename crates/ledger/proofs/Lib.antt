@@ -1,6 +1,5 @@
 pub mod Applying
 pub mod Asking
-pub mod Cases
 pub mod Determined
 pub mod Following
 pub mod Judging
@@ -17,5 +16,4 @@ pub mod Replaying
 pub mod Tracing
 pub mod TracingFront
 pub mod TracingSteps
-pub mod Walked
 pub mod Walking

@@ -18,7 +18,7 @@ use Rattle.ledger.specs.Claims.{
   faultOf,
   countOf,
   fresh,
-  room,
+  roomIn,
   WholeIs,
   Halted,
   HaltsExactly,
@@ -171,7 +171,7 @@ joined n past l ls = sym (reverseAux-append (eventsOf (following n) l) (events (
 module _ (lent : List ℕ) where
   -- the next line's fault, n lines standing before it
   abbrev next-fault : ℕ → Option TraceLine → List Event → Option ℕ
-  next-fault n x past = faultOf (room lent) (following n) x past
+  next-fault n x past = faultOf (roomIn lent) (following n) x past
 
   -- the ledger after a line, and after lines
   abbrev book-of : ℕ → TraceLine → List Event → Book
@@ -236,7 +236,7 @@ module _ (lent : List ℕ) where
     lines : ls ≡ map some good ++ bad ∷ rest
     number : m ≡ following (numberAfter n good)
     before : takenAll (map some good) (bookAfter n lent past) ≡ (accepted, 0, b)
-    why : faultOf (room lent) m bad (reverseAux (events n good) past) ≡ some k
+    why : faultOf (roomIn lent) m bad (reverseAux (events n good) past) ≡ some k
 
   -- it is the first
   at-once : (n : ℕ) (past : List Event) (k m j : ℕ) (x : Option TraceLine) (ls : Lines) (b : Book) → next-fault n x past ≡ some j
@@ -253,7 +253,7 @@ module _ (lent : List ℕ) where
         lines = refl;
         number = sym numbers;
         before = ap (λ (o : Outcome). (accepted, 0, o .2)) e;
-        why = ap (λ (i : ℕ). faultOf (room lent) i x past) (sym numbers) ∙ q ∙ ap some same;
+        why = ap (λ (i : ℕ). faultOf (roomIn lent) i x past) (sym numbers) ∙ q ∙ ap some same;
       }
 
   halts : (n : ℕ) (past : List Event) (k m : ℕ) (ls : Lines) (b : Book) → Fits lent past
@@ -278,7 +278,7 @@ module _ (lent : List ℕ) where
             lines = ap (λ (x : Lines). some l ∷ x) (t .lines);
             number = t .number;
             before = first-is n past l (map some (t .good)) f ∙ ap go q ∙ t .before;
-            why = ap (faultOf (room lent) m (t .bad)) (sym (joined n past l (t .good))) ∙ t .why;
+            why = ap (faultOf (roomIn lent) m (t .bad)) (sym (joined n past l (t .good))) ∙ t .why;
           }
       by h (some j) q e = at-once n past k m j (some l) ls b q e
 
@@ -296,7 +296,7 @@ module _ (lent : List ℕ) where
       let past : List Event = reverse (events 0 (h .good)) in
       let number : following (numberAfter 0 (h .good)) ≡ n = next-is (h .good) ∙ sym (h .number) in
       let why : next-fault (numberAfter 0 (h .good)) (h .bad) past ≡ some k =
-      ap (λ (i : ℕ). faultOf (room lent) i (h .bad) past) number ∙ h .why in
+      ap (λ (i : ℕ). faultOf (roomIn lent) i (h .bad) past) number ∙ h .why in
       ap (λ (x : Lines). takenAll x (fresh lent)) (h .lines)
       ∙ line-by-line (map some (h .good)) (h .bad ∷ h .rest) (fresh lent)
       ∙ ap (λ (o : Outcome). continued o (takenAll (h .bad ∷ h .rest))) (h .before)

@@ -13,7 +13,7 @@ use lib.ListN.{length, drop, length-append}
 use lib.Seq.{drop-at}
 use Rattle.ledger.specs.Events.{Request, Reply, Event, request, reply, stopAt}
 use Rattle.ledger.specs.Matching.{
-  changed,
+  openAfter,
   unanswered,
   answeredBy,
   ofCid,
@@ -23,6 +23,7 @@ use Rattle.ledger.specs.Matching.{
   Matched,
   QueueIsMatching,
   StrayIsUnmatched,
+  OpenAreUnanswered,
 }
 
 -- ---- the requests of a CID are those that have left its queue, and then those in it
@@ -41,7 +42,7 @@ gone c [] = []
 gone c (e ∷ past) = gone c past ++ leaves c e (unanswered c past)
 
 module _ (c : ℕ) where
-  part : (e : Event) (g u : List Request) → g ++ u ++ ofCid c e ≡ g ++ leaves c e u ++ changed c e u
+  part : (e : Event) (g u : List Request) → g ++ u ++ ofCid c e ≡ g ++ leaves c e u ++ openAfter c e u
   part (request r) g u = by (eqb (r .cid) c)
     where
       by : (b : Bool) → g ++ u ++ cond b (r ∷ []) [] ≡ g ++ [] ++ cond b (u ++ (r ∷ [])) u
@@ -213,3 +214,9 @@ stray-is-unmatched past a = (
     by : (o : Option Request) → answeredBy a past ≡ o → ((r : Request) → Matched past a r → ⊥) → o ≡ none
     by none q h = refl
     by (some r) q h = absurd (h r (head-is-matched past a r q))
+
+pub open-are-unanswered : OpenAreUnanswered
+open-are-unanswered c past k =
+    let n = count c past (unanswered c past) refl in
+    let a = answered-is c past k in
+    (λ h. let l = a .0 h in omega arith, λ h. a .1 (omega arith))

@@ -23,7 +23,7 @@ use Rattle.ledger.specs.Claims.{
   ListedIsOne,
   inNumbers,
   fresh,
-  room,
+  roomIn,
   Lists,
   ListExactly,
 }
@@ -117,7 +117,7 @@ fours-are (n ∷ ns) w =
     tabulate-alike (length ns) (λ k. fourAt (inFour n ++ rest) (suc k)) (fourAt rest) (λ k h. four-behind n rest k) in
     ap (λ (l : List Note). n ∷ l) (behind ∙ fours-are ns w)
 
-pub entries-are : (lent : List ℕ) (ns : List Note) → length ns ≤ room lent → tabulate (length ns) (noteAt (listOf lent ns)) ≡ ns
+pub entries-are : (lent : List ℕ) (ns : List Note) → length ns ≤ roomIn lent → tabulate (length ns) (noteAt (listOf lent ns)) ≡ ns
 entries-are lent ns h =
     tabulate-alike (length ns) (noteAt (listOf lent ns)) (fourAt (listOf lent ns)) within ∙ fours-are ns (drop (length (inNumbers ns)) lent)
   where

@@ -15,9 +15,9 @@ use Rattle.bits.specs.Memory.{over}
 use Rattle.table.specs.Answers.{Answer, given, refused}
 use Rattle.fields.specs.Places.{numberAt, NewChannelReq·channelIndex, DlChannelReq·channelIndex}
 use Rattle.ledger.specs.Book.{Book, inFour, noted, put, takesEffect, decided, answering, step, onward, steps, taken}
-use Rattle.ledger.specs.Claims.{inNumbers, bookAfter, full, fault, orElse, firstFault, faultOf, room, HigherNotHeld}
+use Rattle.ledger.specs.Claims.{inNumbers, bookAfter, full, fault, orElse, firstFault, faultOf, roomIn, HigherNotHeld}
 use Rattle.ledger.specs.Events.{Request, Reply, Event, request, reply, stopAt, eventsOf, following}
-use Rattle.ledger.specs.Matching.{unanswered, changed, answeredBy}
+use Rattle.ledger.specs.Matching.{unanswered, openAfter, answeredBy}
 use Rattle.ledger.specs.Parents.{joining, parents, Note, beyond, stray, stopped, broughtBy, due, notes}
 use Rattle.ledger.specs.Settings.{
   Setting,
@@ -144,7 +144,7 @@ numbers-long (n ∷ ns) = omega (arith, numbers-long ns)
 abbrev pub listOf : List ℕ → List Note → List ℕ
 listOf lent ns = inNumbers ns ++ drop (length (inNumbers ns)) lent
 
-pub list-long : (lent : List ℕ) (ns : List Note) → length ns ≤ room lent → length (listOf lent ns) ≡ length lent
+pub list-long : (lent : List ℕ) (ns : List Note) → length ns ≤ roomIn lent → length (listOf lent ns) ≡ length lent
 list-long lent ns h =
     length-append (inNumbers ns) (drop (length (inNumbers ns)) lent) ∙ omega (arith, numbers-long ns, length-drop (length (inNumbers ns)) lent)
 
@@ -177,13 +177,13 @@ same-book p q r s t = λ i. record { lines = p i; listed = q i; pending = r i; h
 
 module _ (lent : List ℕ) where
   abbrev pub Fits : List Event → Type 0
-  Fits past = length (notes past) ≤ room lent
+  Fits past = length (notes past) ≤ roomIn lent
 
   abbrev bookWith : ℕ → List Note → (ℕ → List Request) → (Setting → List Request) → Book
   bookWith n ns pending held = record { lines = n; listed = length ns; pending = pending; held = held; list = listOf lent ns }
 
   noted-is : (n : ℕ) (x : Note) (past : List Event) (pending : ℕ → List Request) (held : Setting → List Request) → Fits past
-      → noted x (bookWith n (notes past) pending held) ≡ verdict (full (room lent) (x ∷ []) past) (bookWith n (notes past ++ (x ∷ [])) pending held)
+      → noted x (bookWith n (notes past) pending held) ≡ verdict (full (roomIn lent) (x ∷ []) past) (bookWith n (notes past ++ (x ∷ [])) pending held)
   noted-is n x past pending held h =
       let ns : List Note = notes past in
       let longer : Book = record {
@@ -194,7 +194,7 @@ module _ (lent : List ℕ) where
         list = over (listOf lent ns) (4 * length ns) (inFour x);
       } in
       ap (λ (k : ℕ). cond (ltb (length ns) (k / 4)) (given longer) (refused 4)) (list-long lent ns h)
-      ∙ verdict-cond (ltb (length ns) (room lent)) 4 (same-book refl (sym (length-append ns (x ∷ []))) refl refl (list-on lent ns x))
+      ∙ verdict-cond (ltb (length ns) (roomIn lent)) 4 (same-book refl (sym (length-append ns (x ∷ []))) refl refl (list-on lent ns x))
 
   -- nothing is due
   none-due : (n : ℕ) (past : List Event) (pending : ℕ → List Request) (held : Setting → List Request)
@@ -203,17 +203,17 @@ module _ (lent : List ℕ) where
 
   -- an answer that finds o to be the earliest open request of its CID
   answer-is : (n : ℕ) (a : Reply) (past : List Event) → Fits past → (o : Option Request) → answeredBy a past ≡ o
-      → answering a o (bookAfter n lent past) ≡ verdict (full (room lent) (broughtBy a o) past)
-      (bookWith n (notes past ++ broughtBy a o) (λ c. changed c (reply a) (unanswered c past))
+      → answering a o (bookAfter n lent past) ≡ verdict (full (roomIn lent) (broughtBy a o) past)
+      (bookWith n (notes past ++ broughtBy a o) (λ c. openAfter c (reply a) (unanswered c past))
       (λ σ. take 2 (joining σ (cond (a .agrees) o none) (parents σ past))))
   answer-is n a past f none h =
       noted-is n (stray (a .at)) past (λ c. unanswered c past) (λ σ. take 2 (parents σ past)) f
-      ∙ ap (verdict (full (room lent) (broughtBy a none) past))
+      ∙ ap (verdict (full (roomIn lent) (broughtBy a none) past))
       (same-book refl refl (fun-ext (λ d. unmoved past (a .cid) d h (eqb (a .cid) d) refl))
       (fun-ext (λ σ. ap (λ (o : Option Request). take 2 (joining σ o (parents σ past))) (sym (cond-same (a .agrees) none)))) refl)
   answer-is n a past f (some r) h = by (a .agrees)
     where
-      moved : put (a .cid) (tail (unanswered (a .cid) past)) (λ c. unanswered c past) ≡ (λ c. changed c (reply a) (unanswered c past))
+      moved : put (a .cid) (tail (unanswered (a .cid) past)) (λ c. unanswered c past) ≡ (λ c. openAfter c (reply a) (unanswered c past))
       moved = fun-ext (λ d. put-at tail (λ c. unanswered c past) (a .cid) d (eqb (a .cid) d) refl)
 
       before : Book
@@ -224,43 +224,43 @@ module _ (lent : List ℕ) where
 
       yes-to : (high : Bool) → (high ≡ true → (σ : Setting) → writes r σ ≡ false)
           → cond high (noted (beyond (r .at)) before) (given (takesEffect r before))
-          ≡ verdict (full (room lent) (cond high (beyond (r .at) ∷ []) []) past)
-          (bookWith n (notes past ++ cond high (beyond (r .at) ∷ []) []) (λ c. changed c (reply a) (unanswered c past)) joined)
+          ≡ verdict (full (roomIn lent) (cond high (beyond (r .at) ∷ []) []) past)
+          (bookWith n (notes past ++ cond high (beyond (r .at) ∷ []) []) (λ c. openAfter c (reply a) (unanswered c past)) joined)
       yes-to true w =
           noted-is n (beyond (r .at)) past (before .pending) (before .held) f
-          ∙ ap (verdict (full (room lent) (beyond (r .at) ∷ []) past))
+          ∙ ap (verdict (full (roomIn lent) (beyond (r .at) ∷ []) past))
           (same-book refl refl moved (fun-ext (λ σ. ap (λ (b : Bool). take 2 (cond b (r ∷ parents σ past) (parents σ past))) (sym (w refl σ)))) refl)
       yes-to false w =
           ap given (same-book refl refl moved (fun-ext (λ σ. held-on (writes r σ) r (parents σ past))) refl
-          ∙ none-due n past (λ c. changed c (reply a) (unanswered c past)) joined)
+          ∙ none-due n past (λ c. openAfter c (reply a) (unanswered c past)) joined)
 
-      by : (yea : Bool) → decided yea r before ≡ verdict (full (room lent) (cond (yea && isBeyond r) (beyond (r .at) ∷ []) []) past)
-          (bookWith n (notes past ++ cond (yea && isBeyond r) (beyond (r .at) ∷ []) []) (λ c. changed c (reply a) (unanswered c past))
+      by : (yea : Bool) → decided yea r before ≡ verdict (full (roomIn lent) (cond (yea && isBeyond r) (beyond (r .at) ∷ []) []) past)
+          (bookWith n (notes past ++ cond (yea && isBeyond r) (beyond (r .at) ∷ []) []) (λ c. openAfter c (reply a) (unanswered c past))
           (λ σ. take 2 (joining σ (cond yea (some r) none) (parents σ past))))
       by true = yes-to (isBeyond r) (higher-not-held r)
       by false =
           ap given (same-book refl refl moved refl refl
-          ∙ none-due n past (λ c. changed c (reply a) (unanswered c past)) (λ σ. take 2 (parents σ past)))
+          ∙ none-due n past (λ c. openAfter c (reply a) (unanswered c past)) (λ σ. take 2 (parents σ past)))
 
   pub step-is : (n : ℕ) (e : Event) (past : List Event) → Fits past
-      → step e (bookAfter n lent past) ≡ verdict (fault (room lent) e past) (bookAfter n lent (e ∷ past))
+      → step e (bookAfter n lent past) ≡ verdict (fault (roomIn lent) e past) (bookAfter n lent (e ∷ past))
   step-is n (request r) past f =
       verdict-cond (ltb (length (unanswered (r .cid) past)) 8) 17
       (same-book refl refl (fun-ext (λ d. put-at (λ rs. rs ++ (r ∷ [])) (λ c. unanswered c past) (r .cid) d (eqb (r .cid) d) refl)) refl refl
-      ∙ none-due n past (λ c. changed c (request r) (unanswered c past)) (λ σ. take 2 (parents σ past)))
+      ∙ none-due n past (λ c. openAfter c (request r) (unanswered c past)) (λ σ. take 2 (parents σ past)))
   step-is n (reply a) past f = answer-is n a past f (answeredBy a past) refl
   step-is n (stopAt p) past f = noted-is n (stopped p) past (λ c. unanswered c past) (λ σ. take 2 (parents σ past)) f
 
   -- ---- an event that is not at fault leaves room for what it brings
 
-  room-left : (past : List Event) (ns : List Note) → full (room lent) ns past ≡ none → length ns ≤ 1 → Fits past
-      → length (notes past ++ ns) ≤ room lent
+  room-left : (past : List Event) (ns : List Note) → full (roomIn lent) ns past ≡ none → length ns ≤ 1 → Fits past
+      → length (notes past ++ ns) ≤ roomIn lent
   room-left past [] f o h = simp append-nil h
-  room-left past (n ∷ ns) f o h = by (ltb (length (notes past)) (room lent)) refl f
+  room-left past (n ∷ ns) f o h = by (ltb (length (notes past)) (roomIn lent)) refl f
     where
-      by : (b : Bool) → ltb (length (notes past)) (room lent) ≡ b → cond {A = Option ℕ} b none (some 4) ≡ none
-          → length (notes past ++ n ∷ ns) ≤ room lent
-      by true e f = simp length-append (omega (arith, ltb-true (length (notes past)) (room lent) e))
+      by : (b : Bool) → ltb (length (notes past)) (roomIn lent) ≡ b → cond {A = Option ℕ} b none (some 4) ≡ none
+          → length (notes past ++ n ∷ ns) ≤ roomIn lent
+      by true e f = simp length-append (omega (arith, ltb-true (length (notes past)) (roomIn lent) e))
       by false e f = let no-way : _≡_ {A = ℕ} 0 1 = cc in absurd (omega arith)
 
   one-due : (a : Reply) (o : Option Request) → length (broughtBy a o) ≤ 1
@@ -271,7 +271,7 @@ module _ (lent : List ℕ) where
       by true = omega arith
       by false = omega arith
 
-  pub fits-on : (e : Event) (past : List Event) → fault (room lent) e past ≡ none → Fits past → Fits (e ∷ past)
+  pub fits-on : (e : Event) (past : List Event) → fault (roomIn lent) e past ≡ none → Fits past → Fits (e ∷ past)
   fits-on (request r) past f h = simp append-nil h
   fits-on (reply a) past f h = room-left past (due (reply a) past) f (one-due a (answeredBy a past)) h
   fits-on (stopAt p) past f h = room-left past (stopped p ∷ []) f (omega arith) h
@@ -279,25 +279,25 @@ module _ (lent : List ℕ) where
   -- ---- events: given exactly if none is at fault, and then the ledger after the longer past
 
   pub steps-are : (n : ℕ) (es past : List Event) → Fits past
-      → steps es (bookAfter n lent past) ≡ verdict (firstFault (room lent) es past) (bookAfter n lent (reverseAux es past))
+      → steps es (bookAfter n lent past) ≡ verdict (firstFault (roomIn lent) es past) (bookAfter n lent (reverseAux es past))
   unfolding steps
   steps-are n [] past f = refl
   steps-are n (e ∷ es) past f =
-      ap (λ (x : Answer Book). onward x (steps es)) (step-is n e past f) ∙ by (steps-are n es (e ∷ past)) (fault (room lent) e past) refl
+      ap (λ (x : Answer Book). onward x (steps es)) (step-is n e past f) ∙ by (steps-are n es (e ∷ past)) (fault (roomIn lent) e past) refl
     where
       by : (Fits (e ∷ past) → steps es (bookAfter n lent (e ∷ past))
-          ≡ verdict (firstFault (room lent) es (e ∷ past)) (bookAfter n lent (reverseAux es (e ∷ past))))
-          → (o : Option ℕ) → fault (room lent) e past ≡ o → onward (verdict o (bookAfter n lent (e ∷ past))) (steps es)
-          ≡ verdict (orElse o (firstFault (room lent) es (e ∷ past))) (bookAfter n lent (reverseAux es (e ∷ past)))
+          ≡ verdict (firstFault (roomIn lent) es (e ∷ past)) (bookAfter n lent (reverseAux es (e ∷ past))))
+          → (o : Option ℕ) → fault (roomIn lent) e past ≡ o → onward (verdict o (bookAfter n lent (e ∷ past))) (steps es)
+          ≡ verdict (orElse o (firstFault (roomIn lent) es (e ∷ past))) (bookAfter n lent (reverseAux es (e ∷ past)))
       by h none q = h (fits-on e past q f)
       by h (some k) q = refl
 
-  pub fits-along : (es past : List Event) → firstFault (room lent) es past ≡ none → Fits past → Fits (reverseAux es past)
+  pub fits-along : (es past : List Event) → firstFault (roomIn lent) es past ≡ none → Fits past → Fits (reverseAux es past)
   fits-along [] past f h = h
-  fits-along (e ∷ es) past f h = by (fits-along es (e ∷ past)) (fault (room lent) e past) refl f
+  fits-along (e ∷ es) past f h = by (fits-along es (e ∷ past)) (fault (roomIn lent) e past) refl f
     where
-      by : (firstFault (room lent) es (e ∷ past) ≡ none → Fits (e ∷ past) → Fits (reverseAux es (e ∷ past)))
-          → (o : Option ℕ) → fault (room lent) e past ≡ o → orElse o (firstFault (room lent) es (e ∷ past)) ≡ none → Fits (reverseAux es (e ∷ past))
+      by : (firstFault (roomIn lent) es (e ∷ past) ≡ none → Fits (e ∷ past) → Fits (reverseAux es (e ∷ past)))
+          → (o : Option ℕ) → fault (roomIn lent) e past ≡ o → orElse o (firstFault (roomIn lent) es (e ∷ past)) ≡ none → Fits (reverseAux es (e ∷ past))
       by g none q f = g f (fits-on e past q h)
       by g (some k) q f = let no-way : _≡_ {A = ℕ} 0 1 = cc in absurd (omega arith)
 
@@ -305,5 +305,5 @@ module _ (lent : List ℕ) where
 
   pub taken-is : (n : ℕ) (l : TraceLine) (past : List Event) → Fits past
       → taken (some l) (bookAfter n lent past)
-      ≡ verdict (faultOf (room lent) (following n) (some l) past) (bookAfter (following n) lent (reverseAux (eventsOf (following n) l) past))
+      ≡ verdict (faultOf (roomIn lent) (following n) (some l) past) (bookAfter (following n) lent (reverseAux (eventsOf (following n) l) past))
   taken-is n l past f = steps-are (following n) (eventsOf (following n) l) past f

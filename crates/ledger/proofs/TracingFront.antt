@@ -20,26 +20,11 @@ use Rattle.text.specs.Hex.{hexDigit, hexByte, hexOf, hexField, bytesOf, HexDigi
 use Rattle.text.proofs.Decimals.{value-decimal, decimal-numeral, numeral-spelled}
 use Rattle.text.proofs.Hexes.{hex-pairs, hex-back, hex-long, pairs-spelled}
 use Rattle.text.proofs.Lines.{head-is}
-use Rattle.ledger.specs.Lines.{
-  digitIn,
-  digitsIn,
-  numberIn,
-  directionIn,
-  headingIn,
-  nibble,
-  pairsIn,
-  closed,
-  paired,
-  fieldIn,
-  from,
-  fieldTold,
-  lineTold,
-}
-use Rattle.ledger.specs.declared.lines.LineAt.{LineAt}
+use Rattle.ledger.specs.Lines.{digitIn, digitsIn, numberIn, directionIn, headingIn, nibble, pairsIn, closed, paired, fieldIn, from, fieldTold}
 use Rattle.ledger.specs.declared.lines.Field.{Field}
-use Rattle.ledger.specs.Trace.{TraceLine, Lawful, written, begins, front, linesOf, BeginsWith}
+use Rattle.ledger.specs.Trace.{TraceLine, Lawful, written, begins, front, BeginsWith}
 use Rattle.ledger.specs.Working.{withNext, frontAt}
-use Rattle.ledger.proofs.Tracing.{written-parts, begins-rest, front-written, front-read, both, taken, LineRead, line-read, none-read}
+use Rattle.ledger.proofs.Tracing.{written-parts, begins-rest, front-written, front-read, both, taken}
 use Rattle.ledger.proofs.TracingSteps.{
   digit-is,
   digit-in,

@@ -1,7 +1,7 @@
 -- The events of a stream, told from the steps along it; and the commands of the table by their CIDs. Assumes nothing.
 use Prim.Native.Nat.{ℕ, _+_, _*_, _/_, _%_, _<_, _≤_}
 use Prim.Native.String.{String}
-use mathlib.Core.Bool.{Bool, true, false, cond}
+use mathlib.Core.Bool.{Bool, true, false, cond, _&&_, _||_}
 use mathlib.Core.List.{List, [], _∷_, _++_}
 use mathlib.Core.Option.{some}
 use mathlib.Core.Path.{_≡_, refl, sym, ap, _∙_}
@@ -14,7 +14,7 @@ use Rattle.bits.proofs.Each.{Each, each}
 use Rattle.table.proofs.Lengths.{at-most-five}
 use Rattle.table.proofs.Rows.{After, missing, nameless}
 use Rattle.table.specs.Answers.{Answer, given, refused}
-use Rattle.table.specs.Table.{Row, rows, lengthOf, nameIn}
+use Rattle.table.specs.Table.{Row, rows, lengthIn, lengthOf, nameIn}
 use Rattle.table.specs.declared.rules.Direction.{Direction}
 use Rattle.table.specs.declared.rules.Direction.the-variants.{Down, Up}
 use Rattle.table.specs.declared.rules.Rules.{Rules}
@@ -23,7 +23,7 @@ use Rattle.walk.proofs.Laws.{ends-at, walk-ends}
 use Rattle.walk.proofs.Steps.{Here, past, ends, goes, here, walk-goes, found-ends, found-goes, found-command, goes-body, command-told}
 use Rattle.walk.specs.Step.{Found, ended, command, stopped, firstOf, foundAt, Heading, heading, inNumbers, stepAt}
 use Rattle.walk.specs.Walk.{Cmd, placed, Ending, end, stop, placeOf}
-use Rattle.ledger.specs.Events.{Event, stopAt, endsIn, isRequest, agreesWith, place, eventOf, walkEvents}
+use Rattle.ledger.specs.Events.{Event, stopAt, endsIn, isRequest, agreesWith, place, eventOf, walkEvents, isKnown, NamedEither}
 use Rattle.ledger.specs.Memory.{fiveOf}
 use Rattle.ledger.specs.Trace.{begins}
 use Rattle.ledger.specs.Working.{eventsFrom}
@@ -77,6 +77,35 @@ as-in d c (no h) = none-above d c (omega arith) ∙ sym (not-above d c (omega ar
 pub request-is : (rules : Rules) (c : ℕ) → isRequest rules c ≡ requestIn (rules .direction) c
 unfolding asksIn
 request-is rules c = as-in (rules .direction) c (decLt c 14)
+
+-- ---- every command is a request or an answer
+
+repliesIn : Direction → ℕ → Bool
+repliesIn d c = endsIn "Ans" (ascii (nameIn rows d c))
+
+Named : Direction → ℕ → Type 0
+Named d c = ((asksIn d c || repliesIn d c) ≡ isKnown (lengthIn rows d c)) × ((asksIn d c && repliesIn d c) ≡ false)
+
+named-each : (d : Direction) → Each (Named d) 14
+unfolding Named asksIn repliesIn ascii begins
+named-each Down = ((refl, refl), ((refl, refl), ((refl, refl), ((refl, refl), ((refl, refl), ((refl, refl), ((refl, refl), ((refl, refl), ((refl, refl), ((refl, refl), ((refl, refl), ((refl, refl), ((refl, refl), ((refl, refl), tt))))))))))))))
+named-each Up = ((refl, refl), ((refl, refl), ((refl, refl), ((refl, refl), ((refl, refl), ((refl, refl), ((refl, refl), ((refl, refl), ((refl, refl), ((refl, refl), ((refl, refl), ((refl, refl), ((refl, refl), ((refl, refl), tt))))))))))))))
+
+-- a byte without a name has no letters to end in
+named-above : (d : Direction) (c : ℕ) → 14 ≤ c → Named d c
+unfolding Named asksIn repliesIn ascii begins
+named-above d c h = rw (nameless rows d c (above c h), missing rows d c (above c h)) (refl, refl)
+
+named-in : (d : Direction) (c : ℕ) → Dec (c < 14) → Named d c
+named-in d c (yes h) = each (Named d) 14 c (named-each d) h
+named-in d c (no h) = named-above d c (omega arith)
+
+pub named-either : NamedEither
+unfolding Named asksIn repliesIn
+named-either = record {
+  either = λ rules c. named-in (rules .direction) c (decLt c 14) .0;
+  not-both = λ rules c. named-in (rules .direction) c (decLt c 14) .1;
+}
 
 -- ---- a CID of the table is below 16
 

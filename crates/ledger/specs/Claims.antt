@@ -1,6 +1,7 @@
--- What is claimed of the ledger (RULES: X5 to X15), of every text that is replayed from a fresh ledger. Each claim is proved: those on settings in
--- proofs/Parenting.antt (higher channels: proofs/Replaying.antt), on the list in proofs/Notes.antt, on texts in proofs/LineByLine.antt, on the
--- events of a line in proofs/Walked.antt. A past is a list of events, the latest first.
+-- What is claimed of the ledger (RULES: X7 to X15): what is shown and listed, when a text is refused, and what a replay of one text and then another
+-- comes to; of every text that is replayed from a fresh ledger, and behind that from any. Each claim is proved: those on settings in
+-- proofs/Parenting.antt (higher channels: proofs/Replaying.antt), on the list in proofs/Notes.antt, on texts in proofs/LineByLine.antt. A past is a
+-- list of events, the latest first.
 use Prim.Native.Nat.{ℕ, _+_, _*_, _/_, _≤_}
 use mathlib.Core.Bool.{true, false, cond}
 use mathlib.Core.List.{List, [], _∷_, _++_, map, reverse}
@@ -10,11 +11,9 @@ use mathlib.Core.Path.{_≡_}
 use lib.Dec.{ltb}
 use lib.ListN.{length, take, drop}
 use Rattle.table.specs.Answers.{given, refused, Consent, accepted}
-use Rattle.table.specs.Table.{lengthOf}
 use Rattle.fields.specs.Lists.{tabulate}
-use Rattle.walk.specs.Walk.{Placed, Ending, end, stop, Walk, walkOf}
 use Rattle.ledger.specs.Book.{Book, inFour, taken, takenAll, replayed}
-use Rattle.ledger.specs.Events.{Place, Request, Reply, Event, request, reply, stopAt, place, rulesFor, eventsOf, following, events}
+use Rattle.ledger.specs.Events.{Place, Request, Reply, Event, request, reply, stopAt, eventsOf, following, events}
 use Rattle.ledger.specs.Matching.{unanswered, EarliestOf, Matched}
 use Rattle.ledger.specs.Memory.{atMost, noteAt}
 use Rattle.ledger.specs.Parents.{Shown, shown, parents, Note, beyond, stray, stopped, due, notes}
@@ -148,8 +147,8 @@ module _ (lent : List ℕ) where
   abbrev pub fresh : Book
   fresh = record { lines = 0; listed = 0; pending = λ c. []; held = λ σ. []; list = lent }
 
-  abbrev pub room : ℕ
-  room = length lent / 4
+  abbrev pub roomIn : ℕ
+  roomIn = length lent / 4
 
   -- the lines of a text that is replayed whole: they all have the form, and the ledger is the one after their events
   pub record Whole (t : List ℕ) (b : Book) : Type 0 where
@@ -184,7 +183,7 @@ module _ (lent : List ℕ) where
     pub lines : ls ≡ map some good ++ bad ∷ rest
     pub number : n ≡ countOf (length good + 1)
     pub before : takenAll (map some good) fresh ≡ (accepted, 0, b)
-    pub why : faultOf room n bad (reverse (events 0 good)) ≡ some k
+    pub why : faultOf roomIn n bad (reverse (events 0 good)) ≡ some k
 
   abbrev pub HaltsExactly : Type 0
   HaltsExactly = (t : List ℕ) (k n : ℕ) (b : Book) → (replayed t fresh ≡ (refused k, n, b)) ↔ Halted k n (linesOf t) b
@@ -219,29 +218,3 @@ LineByLine = (xs ys : List (Option TraceLine)) (b : Book) → takenAll (xs ++ ys
 -- a text that is replayed whole, and then another: it comes to the same in one call, in two, or line by line
 abbrev pub TextByText : Type 0
 TextByText = (t u : List ℕ) (b c : Book) → replayed t b ≡ (accepted, 0, c) → replayed (t ++ u) b ≡ replayed u c
-
--- ---- nothing is guessed
-
--- where an event stands, and its CID; a stop has none
-abbrev pub Origin : Type 0
-Origin = Place × Option ℕ
-
-abbrev pub origin : Event → Origin
-origin (request r) = (r .at, some (r .cid))
-origin (reply a) = (a .at, some (a .cid))
-origin (stopAt p) = (p, none)
-
-module _ (n f : ℕ) where
-  abbrev pub commandOrigin : Placed → Origin
-  commandOrigin p = (place n f (p .at), some (p .cmd .cid))
-
-  abbrev pub stopOrigin : Ending → List Origin
-  stopOrigin (end o) = []
-  stopOrigin (stop k o) = (place n f o, none) ∷ []
-
-  abbrev pub walkOrigins : Walk → List Origin
-  walkOrigins w = map commandOrigin (w .cmds) ++ stopOrigin (w .ending)
-
--- the events of a line are the commands of its walk, each once and in order, and its stop: none is stepped over, none is made up
-abbrev pub NothingGuessed : Type 0
-NothingGuessed = (n : ℕ) (l : TraceLine) → map origin (eventsOf n l) ≡ walkOrigins n (l .frame) (walkOf (lengthOf (rulesFor l)) (l .stream))

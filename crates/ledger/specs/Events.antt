@@ -1,8 +1,10 @@
--- A recorded exchange as events (RULES: X5, X6): each command and each stop of each line's walk, in order.
+-- A recorded exchange as events (RULES: X4 to X6, X8): each command and each stop of each line's walk, in order.
 use Prim.Native.Nat.{ℕ, _+_, _-_}
 use Prim.Native.String.{String}
-use mathlib.Core.Bool.{Bool, true, cond}
+use mathlib.Core.Bool.{Bool, true, false, cond, _&&_, _||_}
 use mathlib.Core.List.{List, [], _∷_, _++_, map}
+use mathlib.Core.Option.{Option, none, some}
+use mathlib.Core.Path.{_≡_}
 use lib.Dec.{eqb, ltb}
 use lib.ListN.{length, drop}
 use Rattle.table.specs.Table.{lengthOf, nameOf, named}
@@ -45,6 +47,10 @@ endsIn word s = begins (ascii word) (drop (length s - length (ascii word)) s)
 abbrev pub isRequest : Rules → ℕ → Bool
 isRequest rules c = endsIn "Req" (ascii (nameOf rules c))
 
+-- or Ans
+abbrev pub isAnswer : Rules → ℕ → Bool
+isAnswer rules c = endsIn "Ans" (ascii (nameOf rules c))
+
 -- what an answer with this CID says: yes or no by its `ack`, and yes where it has none
 abbrev pub agreesWith : ℕ → List ℕ → Bool
 agreesWith c payload =
@@ -57,7 +63,7 @@ abbrev pub place : (line frame offset : ℕ) → Place
 place n f o = record { line = n; frame = f; offset = o }
 
 module _ (rules : Rules) (n f : ℕ) where
-  -- of a command of line n, in frame f
+  -- of a command of line n, in frame f: a request, or else an answer, since every name in the table is one or the other (`NamedEither`)
   abbrev pub eventOf : Placed → Event
   eventOf p = cond (isRequest rules (p .cmd .cid))
       (request (record { at = place n f (p .at); cid = p .cmd .cid; body = inFive (p .cmd .body) .1 }))
@@ -71,6 +77,15 @@ module _ (rules : Rules) (n f : ℕ) where
   -- the commands in order, and then the stop
   abbrev pub walkEvents : Walk → List Event
   walkEvents w = map eventOf (w .cmds) ++ endEvents (w .ending)
+
+-- a byte has a command in a direction exactly if that is named Req or Ans, and none is named both. proofs/Walking.antt proves it
+abbrev pub isKnown : Option ℕ → Bool
+isKnown none = false
+isKnown (some n) = true
+
+pub record NamedEither : Type 0 where
+  pub either : (rules : Rules) (c : ℕ) → (isRequest rules c || isAnswer rules c) ≡ isKnown (lengthOf rules c)
+  pub not-both : (rules : Rules) (c : ℕ) → (isRequest rules c && isAnswer rules c) ≡ false
 
 -- of the line with the number n, by the table's rules for its direction
 abbrev pub rulesFor : TraceLine → Rules

@@ -6,6 +6,7 @@ pub mod Lines
 pub mod Matching
 pub mod Memory
 pub mod Parents
+pub mod Rows
 pub mod Settings
 pub mod Trace
 pub mod Working

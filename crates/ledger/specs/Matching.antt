@@ -1,6 +1,6 @@
 -- Which request an answer answers: "the earliest unanswered request of its CID" (RULES: X7). A past is a list of events, the latest first: what
 -- came before a moment of the exchange, read backwards from it.
-use Prim.Native.Nat.{ℕ, _<_}
+use Prim.Native.Nat.{ℕ, _+_, _<_}
 use mathlib.Core.Bool.{cond}
 use mathlib.Core.List.{List, [], _∷_, _++_, head?, tail}
 use mathlib.Core.Logic.{_⊎_, _↔_}
@@ -13,15 +13,15 @@ use Rattle.ledger.specs.Events.{Request, Reply, Event, request, reply, s
 -- ---- by computation
 
 -- what an event makes of the unanswered requests of a CID: a request comes last, at an answer the first leaves
-abbrev pub changed : ℕ → Event → List Request → List Request
-changed c (request r) rs = cond (eqb (r .cid) c) (rs ++ (r ∷ [])) rs
-changed c (reply a) rs = cond (eqb (a .cid) c) (tail rs) rs
-changed c (stopAt p) rs = rs
+abbrev pub openAfter : ℕ → Event → List Request → List Request
+openAfter c (request r) rs = cond (eqb (r .cid) c) (rs ++ (r ∷ [])) rs
+openAfter c (reply a) rs = cond (eqb (a .cid) c) (tail rs) rs
+openAfter c (stopAt p) rs = rs
 
 -- the requests of a CID that are unanswered, the earliest first
 abbrev pub unanswered : ℕ → List Event → List Request
 unanswered c [] = []
-unanswered c (e ∷ past) = changed c e (unanswered c past)
+unanswered c (e ∷ past) = openAfter c e (unanswered c past)
 
 -- the request that an answer answers; none: the answer is a stray
 abbrev pub answeredBy : Reply → List Event → Option Request
@@ -72,3 +72,7 @@ QueueIsMatching = (past : List Event) (a : Reply) (r : Request) → (answeredBy 
 
 abbrev pub StrayIsUnmatched : Type 0
 StrayIsUnmatched = (past : List Event) (a : Reply) → (answeredBy a past ≡ none) ↔ ((r : Request) → Matched past a r → ⊥)
+
+-- and as many requests of a CID are open as were asked and are not answered: the first ones are answered, and the open ones stand behind them
+abbrev pub OpenAreUnanswered : Type 0
+OpenAreUnanswered = (c : ℕ) (past : List Event) (k : ℕ) → Answered c past k ↔ (k + length (unanswered c past) < length (requests c past))

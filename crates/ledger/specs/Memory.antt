@@ -80,7 +80,7 @@ heldIn w σ = rowIn w (writer σ .cid) (rowOf σ)
 abbrev pub bookOf : Ledger → List ℕ → Book
 bookOf l list = record { lines = l .lines; listed = l .listed; pending = pendingIn (l .pending); held = heldIn (l .held); list = list }
 
--- entry k of a list: four numbers, and zeros past its end
+-- four numbers of a list, from number 4 k on, read as an entry, and zeros past the list's end. (How many entries there are, the ledger knows)
 abbrev pub noteAt : List ℕ → ℕ → Note
 noteAt list k =
     cond (ltb k (length list / 4))

@@ -1,8 +1,7 @@
 -- The settings that are held (RULES: X9, X10): for each the request that writes it, and what that request says of it, by the readers.
 use Prim.Native.Nat.{ℕ}
-use mathlib.Core.Bool.{Bool, true, false, cond, _&&_, _||_}
+use mathlib.Core.Bool.{Bool, true, _&&_, _||_}
 use mathlib.Core.List.{List}
-use mathlib.Core.Option.{Option, none, some}
 use lib.Dec.{eqb, ltb}
 use Rattle.table.specs.Table.{Command, named}
 use Rattle.fields.specs.Frequency.{hertz}

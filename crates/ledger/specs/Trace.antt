@@ -1,4 +1,4 @@
--- A trace's lines (RULES: X1 to X4): each is defined by how it is written, and reading is the inverse of that.
+-- A trace's lines (RULES: X1 to X3): each is defined by how it is written, and reading is the inverse of that.
 use Prim.Native.Nat.{ℕ, zero, suc, _+_, _<_}
 use mathlib.Core.Bool.{Bool, true, false, cond, _&&_}
 use mathlib.Core.List.{List, [], _∷_, _++_, map}

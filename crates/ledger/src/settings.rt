@@ -13,9 +13,10 @@ ghost use mathlib.Core.List.{[], _∷_};
 ghost use mathlib.Core.Path.{_≡_};
 ghost use Rattle.bits.specs.Bits.{bitOf};
 ghost use Rattle.fields.specs.Lists.{lowFirst};
-ghost use Rattle.ledger.specs.Asked.{inHand, settingOf, rowAt, answered};
+ghost use Rattle.ledger.specs.Asked.{inHand};
 ghost use Rattle.ledger.specs.Memory.{fiveOf, heldIn, channelRow, rowOf};
 ghost use Rattle.ledger.specs.Parents.{shown};
+ghost use Rattle.ledger.specs.Rows.{settingOf, rowAt, answered};
 ghost use Rattle.ledger.specs.Settings.{
   dataRate,
   txPower,

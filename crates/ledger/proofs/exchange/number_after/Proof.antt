@@ -1,8 +1,6 @@
 -- `number_after` meets its contract. Assumes nothing.
-use mathlib.Core.Path.{sym}
 use borrow.Author.Needs.{needs}
 use borrow.Author.Tests.{lt-ltb, le-ltb}
-use native.Mathlib.Omega.{arith}
 use Rattle.ledger.proofs.exchange.number_after.Statement.{statement}
 use Rattle.ledger.proofs.exchange.number_after.Tie as tie
 

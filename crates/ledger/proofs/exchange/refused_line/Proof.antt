@@ -1,5 +1,4 @@
 -- `refused_line` meets its contract. Assumes nothing.
-use mathlib.Core.Path.{ap, _∙_}
 use borrow.Author.Needs.{needs}
 use borrow.Author.Tests.{ne-eqb}
 use Rattle.ledger.proofs.exchange.refused_line.Statement.{statement}

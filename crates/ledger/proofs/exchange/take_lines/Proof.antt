@@ -1,7 +1,7 @@
 -- `take_lines` meets its contract. The loop's invariant is `Followed`: the lines from `at` on, from the book in hand, come to what all of them come to
 -- from the first book. The measure is what is left of the text. Assumes nothing.
 use Prim.Native.Nat.{_-_}
-use mathlib.Core.Path.{_≡_, refl, sym, ap, _∙_}
+use mathlib.Core.Path.{_≡_, refl, _∙_}
 use borrow.Author.Needs.{needs}
 use native.Mathlib.Omega.{arith}
 use lib.ListN.{length}

@@ -1,9 +1,7 @@
 -- `verdict_of` meets its contract. Assumes nothing.
-use mathlib.Core.Path.{_≡_, refl, sym, ap, _∙_}
+use mathlib.Core.Path.{_≡_, sym, ap}
 use mathlib.Core.Logic.{_⊎_, inl, inr}
-use native.Mathlib.Omega.{arith}
 use Prim.Native.Nat.{ℕ}
-use Rattle.table.specs.Answers.{Consent, refused}
 use Rattle.ledger.specs.Working.{toldFault, Refuses}
 use Rattle.ledger.proofs.exchange.verdict_of.Statement.{statement}
 use Rattle.ledger.proofs.exchange.verdict_of.Tie as tie

@@ -2,7 +2,7 @@
 use mathlib.Core.Path.{_∙_}
 use denote.Ref.{now}
 use borrow.Author.Needs.{needs}
-use Rattle.ledger.specs.Asked.{settingOf}
+use Rattle.ledger.specs.Rows.{settingOf}
 use Rattle.ledger.proofs.Asking.{answers}
 use Rattle.ledger.proofs.settings.parent.Statement.{statement}
 use Rattle.ledger.proofs.settings.parent.Tie as tie
