@@ -93,16 +93,20 @@ module _ (p : List ℕ) (c k : ℕ) where
       → brought yea ≡ length (broughtBy (replyOf c yea 0 0 0) (some (requestAt c p (32 * c + 4 * k))))
   brought-at yea h = ap (λ (o : Option Request). length (broughtBy (replyOf c yea 0 0 0) o)) (open-at p c k h)
 
-  pub due-no : {yea : Bool} → yea ≡ false → k < length (pendingIn p c) → 0 ≡ brought yea
-  due-no e h = sym (ap brought e ∙ brought-at false h)
-
-  pub due-yes : {yea t : Bool} → yea ≡ true → k < length (pendingIn p c) → t ≡ isBeyond (requestAt c p (32 * c + 4 * k)) → bitOf t ≡ brought yea
-  due-yes {yea} {t} e h q = sym (ap brought e ∙ brought-at true h ∙ by t q)
+  -- the request that it finds is for a channel that is not held, or for one that is
+  pub due-far : (yea : Bool) → k < length (pendingIn p c) → isBeyond (requestAt c p (32 * c + 4 * k)) ≡ true → bitOf yea ≡ brought yea
+  due-far yea h q = sym (brought-at yea h ∙ by yea)
     where
-      by : (t : Bool) → t ≡ isBeyond (requestAt c p (32 * c + 4 * k))
-          → length (broughtBy (replyOf c true 0 0 0) (some (requestAt c p (32 * c + 4 * k)))) ≡ bitOf t
-      by true q = rw (sym q)
-      by false q = rw (sym q)
+      by : (yea : Bool) → length (broughtBy (replyOf c yea 0 0 0) (some (requestAt c p (32 * c + 4 * k)))) ≡ bitOf yea
+      by true = rw q
+      by false = refl
+
+  pub due-near : (yea : Bool) → k < length (pendingIn p c) → isBeyond (requestAt c p (32 * c + 4 * k)) ≡ false → 0 ≡ brought yea
+  due-near yea h q = sym (brought-at yea h ∙ by yea)
+    where
+      by : (yea : Bool) → length (broughtBy (replyOf c yea 0 0 0) (some (requestAt c p (32 * c + 4 * k)))) ≡ 0
+      by true = rw q
+      by false = refl
 
 -- ---- what a command needs, and what comes of it
 
@@ -118,9 +122,9 @@ module _ (p : List ℕ) {asks : Bool} (k c : ℕ) (yea : Bool) where
   need-full e h = rw (e, le-ltb (length (pendingIn p c) + k) 8 (omega arith))
 
   -- of an answer, where t tells whether an entry is due
-  module _ {y : Bool} (t : Bool) (e : asks ≡ false) (h : y ≡ yea) (q : bitOf t ≡ brought p c k y) where
+  module _ (t : Bool) (e : asks ≡ false) (q : bitOf t ≡ brought p c k yea) where
     need-by : 4 * bitOf t ≡ needFor p asks k c yea
-    need-by = rw (e, ← h) (ap (λ (n : ℕ). 4 * n) q)
+    need-by = rw e (ap (λ (n : ℕ). 4 * n) q)
 
     pub need-entry : t ≡ true → 4 ≡ needFor p asks k c yea
     need-entry d = ap (λ (b : Bool). 4 * bitOf b) (sym d) ∙ need-by

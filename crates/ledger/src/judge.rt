@@ -44,17 +44,27 @@ fn is_beyond(pending: &[u64; 528], cid: usize, i: usize) -> bool
     false
 }
 
-// Whether an answer brings an entry, so many answers of its CID going before it.
-fn is_due(pending: &[u64; 528], cid: usize, before: usize, yea: bool) -> bool
+// Whether an answer brings an entry, so many answers of its CID going before it. What it says is asked last, since it counts for few.
+fn is_due(
+    stream: &[u8],
+    pending: &[u64; 528],
+    before: usize,
+    body: usize,
+    cid: u8,
+    len: usize,
+) -> bool
     requires { ⌜ cid < 16 ⌝ }
-    ensures { λ r. ⌜ bitOf r ≡ length (broughtBy (replyOf cid yea 0 0 0) (head? (drop before (pendingIn (now (pending .entry)) cid)))) ⌝ }
+    requires { ⌜ body + len ≤ length (now stream) ⌝ }
+    ensures { λ r. ⌜ bitOf r ≡ length (broughtBy (replyOf cid (agreesWith cid (take len (drop body (now (stream .entry))))) 0 0 0)
+        (head? (drop before (pendingIn (now (pending .entry)) cid)))) ⌝ }
 {
-    let open = waiting(pending, cid);
+    let c = cid as usize;
+    let open = waiting(pending, c);
     if open <= before {
         return true;
     }
-    if yea {
-        return is_beyond(pending, cid, before);
+    if is_beyond(pending, c, before) {
+        return says_yes(stream, body, len, cid);
     }
     false
 }
@@ -76,14 +86,13 @@ fn need_of(
         (4 * length (broughtBy (replyOf cid (agreesWith cid (take len (drop body (now (stream .entry))))) 0 0 0)
         (head? (drop before (pendingIn (now (pending .entry)) cid))))) ⌝ }
 {
-    let c = cid as usize;
     if is_request(rules, cid) {
+        let c = cid as usize;
         let open = waiting(pending, c);
         let free = 8 - open;
         return if before < free { 0 } else { 17 };
     }
-    let yea = says_yes(stream, body, len, cid);
-    if is_due(pending, c, before, yea) {
+    if is_due(stream, pending, before, body, cid, len) {
         4
     } else {
         0

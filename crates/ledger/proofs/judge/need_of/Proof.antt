@@ -39,20 +39,18 @@ returns-2 c =
 returns-3 : tie.Need-returns-3
 returns-3 c =
     let d = c .before in
-    let y = d .before in
-    let q = y .before .before in
+    let q = d .before .before in
     let a = q .before .before .args in
     need-entry (a .pending .now) (a .before) (a .cid) (agreesWith (a .cid) (take (a .len) (drop (a .body) (a .stream .now))))
-    (d .is-due .result) (sym (q .is-request .ensures) ∙ y .before .if1 .left) (y .says-yes .ensures) (d .is-due .ensures) (c .if3 .taken)
+    (d .is-due .result) (sym (q .is-request .ensures) ∙ d .before .if1 .left) (d .is-due .ensures) (c .if3 .taken)
 
 returns-4 : tie.Need-returns-4
 returns-4 c =
     let d = c .before in
-    let y = d .before in
-    let q = y .before .before in
+    let q = d .before .before in
     let a = q .before .before .args in
     need-clear (a .pending .now) (a .before) (a .cid) (agreesWith (a .cid) (take (a .len) (drop (a .body) (a .stream .now))))
-    (d .is-due .result) (sym (q .is-request .ensures) ∙ y .before .if1 .left) (y .says-yes .ensures) (d .is-due .ensures) (c .if3 .left)
+    (d .is-due .result) (sym (q .is-request .ensures) ∙ d .before .if1 .left) (d .is-due .ensures) (c .if3 .left)
 
 pub need-of-spec : {M : Type 1} → statement M
 need-of-spec =
@@ -63,7 +61,6 @@ need-of-spec =
     sub-free
     returns
     returns-2
-    (λ c κs. search needs)
     (λ c κs. search needs)
     returns-3
     returns-4)
