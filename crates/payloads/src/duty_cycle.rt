@@ -57,12 +57,12 @@ impl DutyCycleReqPayload {
         self.0 % 16
     }
 
-    // The limit as a part of the time, for instance 0.5.
+    // The limit as a part of the time, for instance 0.5. A float keeps 127 more than its exponent, which for 1 / 2^n is -n, above the 23 bits of its
+    // fraction, which are zeros here.
     pub fn max_duty_cycle(self) -> f32
         ensures { λ r. ⌜ r ≡ maxDutyCycleOf (DutyCycleReq·bytes self) ⌝ }
     {
-        let divisor = 1u16 << self.max_duty_cycle_raw();
-        1.0 / (divisor as f32)
+        f32::from_bits((127 - (self.max_duty_cycle_raw() as u32)) << 23)
     }
 }
 
