@@ -1,6 +1,6 @@
--- The demands (RULES: D1 to D3), each as one statement, and what holds of masks, command types, the seconds, the duty cycle, where a command came from,
--- the chooser, the listing and the ledger. They speak of functions: each holds of every outcome that the contracts of the public functions admit, so a body that
--- is changed together with its contract can't pass unless the sentence still holds of it.
+-- The demands (RULES: D1 to D3), each as one statement, and what holds of masks, command types, the seconds, the duty cycle, where a command came
+-- from, the chooser, the listing and the ledger. They speak of functions: each holds of every outcome that the contracts of the public functions
+-- admit, so a body that is changed together with its contract can't pass unless the sentence still holds of it.
 use Prim.Native.Nat.{ℕ}
 use mathlib.Core.List.{List}
 use denote.Ref.{RefT}
@@ -27,7 +27,7 @@ pub record Demands : Type 2 where
   pub flags-tell : Lifted FlagsTell
   -- Y9 and K8: the seconds as they are read and as they are set
   pub time-tells : Lifted TimeTells
-  -- Y5 and P18: the part of the time that a device may send, by its value and by its bits
+  -- Y5 and P18: the part of the time in which a device may send, by its value and by its bits
   pub duty-cycle-tells : Lifted DutyCycleTells
   -- D2: the examples hold. (That the answers equal the Rust's, but for A6, is shown by runs, docs/ORACLE.md.)
   pub examples : ExamplesHold

@@ -1,5 +1,5 @@
--- The part of the time that a DutyCycleReq allows (RULES: Y5), of every outcome that the contracts admit: the number that the payload holds, the float
--- as a number, and the float by its bits.
+-- The part of the time that a DutyCycleReq allows (RULES: Y3, Y5), of every outcome that the contracts admit: the number that the payload holds, the
+-- float as a number, and the float by its bits.
 use Prim.Native.Nat.{ℕ, _%_, _^_}
 use mathlib.Core.Bool.{false}
 use mathlib.Core.List.{List, [], _∷_}
@@ -26,7 +26,7 @@ HasBits b bits = (x : Float) → Gives max-duty-cycle.Post (record { 0 = b }, tt
 pub record DutyCycleTells : Type 0 where
   -- the number is the byte's low nibble
   pub number : (b n : ℕ) → Gives max-duty-cycle-raw.Post (record { 0 = b }, tt) n → n ≡ b % 16
-  -- the float is exactly 1 / 2 ^ n, n being that number
+  -- the float is exactly 1 / 2 ^ n, n being that number: `HasValue x false a c` is that x is finite, not negative, and a / c in size
   pub exactly : (b : ℕ) (x : Float) → Gives max-duty-cycle.Post (record { 0 = b }, tt) x → HasValue x false 1 (2 ^ (b % 16))
   -- its bits, of each of the sixteen
   pub bits : (b : ℕ) → HasBits b (getD halvings (b % 16) 0)

@@ -57,7 +57,7 @@ impl DutyCycleReqPayload {
         self.0 % 16
     }
 
-    // The limit as a part of the time, for instance 0.5. A float keeps 127 more than its exponent, which for 1 / 2^n is -n, above the 23 bits of its
+    // The limit as a part of the time, for instance 0.5. An f32 keeps 127 more than its exponent, which for 1 / 2^n is -n, above the 23 bits of its
     // fraction, which are zeros here.
     pub fn max_duty_cycle(self) -> f32
         ensures { λ r. ⌜ r ≡ maxDutyCycleOf (DutyCycleReq·bytes self) ⌝ }
