@@ -27,7 +27,7 @@ pub record Demands : Type 2 where
   pub flags-tell : Lifted FlagsTell
   -- Y9 and K8: the seconds as they are read and as they are set
   pub time-tells : Lifted TimeTells
-  -- Y5 and P18: the part of the time in which a device may send, by its value and by its bits
+  -- Y3, Y5 and P18: the part of the time in which a device may send, by its value and by its bits
   pub duty-cycle-tells : Lifted DutyCycleTells
   -- D2: the examples hold. (That the answers equal the Rust's, but for A6, is shown by runs, docs/ORACLE.md.)
   pub examples : ExamplesHold
