@@ -27,7 +27,7 @@ pub record DutyCycleTells : Type 0 where
   -- the number is the byte's low nibble
   pub number : (b n : ℕ) → Gives max-duty-cycle-raw.Post (record { 0 = b }, tt) n → n ≡ b % 16
   -- the float is exactly 1 / 2 ^ n, n being that number: `HasValue x false a c` is that x is finite, not negative, and a / c in size
-  pub exactly : (b : ℕ) (x : Float) → Gives max-duty-cycle.Post (record { 0 = b }, tt) x → HasValue x false 1 (2 ^ (b % 16))
+  pub value : (b : ℕ) (x : Float) → Gives max-duty-cycle.Post (record { 0 = b }, tt) x → HasValue x false 1 (2 ^ (b % 16))
   -- its bits, of each of the sixteen
   pub bits : (b : ℕ) → HasBits b (getD halvings (b % 16) 0)
   -- P18
