@@ -47,6 +47,32 @@ alone! {
 }
 
 alone! {
+    jumping,
+
+    /// The iterator's command after n others: its CID * 256 + the bytes of its payload; or 0 where there is none.
+    #[inline(never)]
+    pub fn nth(stream: &[u8], n: usize) -> u64 {
+        parse_downlink_mac_commands(stream).nth(n).map_or(0, |command| u64::from(command.cid()) * 256 + command.len() as u64)
+    }
+}
+
+alone! {
+    placing,
+
+    /// Of every command, its offset * 65,536 + its CID * 256 + the bytes of its payload. Each begins where the one before ends.
+    pub fn spots(stream: &[u8]) -> Vec<u64> {
+        let mut at = 0;
+        let spot = |command: DownlinkMacCommand| {
+            let len = command.len() as u64;
+            let spot = at * 65_536 + u64::from(command.cid()) * 256 + len;
+            at += 1 + len;
+            spot
+        };
+        parse_downlink_mac_commands(stream).map(spot).collect()
+    }
+}
+
+alone! {
     reading,
 
     /// Every field of every command once, added up modulo 2^32: a mask by its banks, a duty cycle by its number and by its fraction's bits. The

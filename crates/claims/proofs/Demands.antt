@@ -6,6 +6,7 @@ use Rattle.claims.proofs.Choosing.{chooser}
 use Rattle.claims.proofs.DutyCycle.{duty-cycle-tells}
 use Rattle.claims.proofs.Examples.{examples-hold}
 use Rattle.claims.proofs.Flags.{flags-tell}
+use Rattle.claims.proofs.Jumping.{jumps-tell}
 use Rattle.claims.proofs.Keeping.{refusals-keep, masks-tell}
 use Rattle.claims.proofs.Ledger.{ledger-tells}
 use Rattle.claims.proofs.LedgerExamples.{examples-held}
@@ -28,6 +29,7 @@ demands = record {
   builds = builds;
   by-hand = by-hand;
   chooser = record { so = chooser };
+  jumps-tell = record { so = jumps-tell };
   listings-tell = listings-tell;
   ledger-tells = ledger-tells examples-held;
 }

@@ -17,6 +17,7 @@ use Rattle.payloads.specs.Commands.{sentUp, sentDown}
 use Rattle.walk.specs.Ownership.{offsetOf, Owned}
 use Rattle.walk.specs.Part.{Part, shown, payloadPart}
 use Rattle.walk.specs.Step.{Found, ended, command, stopped, Heading, firstOf, firstMove, foundAt, retold, inNumbers, stepAt}
+use Rattle.walk.specs.Stepping.{movedTo}
 use Rattle.walk.specs.Told.{toldStep}
 use Rattle.walk.specs.Walk.{Rule, Cmd, Placed, Ending, end, stop, Walk, encode, size, bare, walkFrom, walkOf}
 use Rattle.walk.specs.declared.step.Step.{Step}
@@ -28,7 +29,7 @@ use Rattle.build.specs.Told.{toldHanded}
 use Rattle.build.specs.declared.handed.Handed.{Handed}
 use Rattle.build.specs.declared.record.Record.{Record}
 use Rattle.build.proofs.AsRecords.{five-front}
-use Rattle.lent.specs.Iterator.{movedTo, fresh, nexted, nextedRecord}
+use Rattle.lent.specs.Iterator.{fresh, nexted, nextedRecord}
 use Rattle.lent.specs.declared.iterator.MacCommandIterator.{MacCommandIterator}
 use Rattle.lent.proofs.iterator.MacCommandIterator.next as next
 use Rattle.lent.proofs.iterator.MacCommandIterator.next_record as next-record

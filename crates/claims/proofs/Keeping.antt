@@ -18,13 +18,14 @@ use Rattle.fields.specs.Places.{LinkADRReq·dataRate, LinkADRReq·txPower, RXTi
 use Rattle.creators.specs.Image.{putAt, onlyIf, checkedAt}
 use Rattle.creators.specs.Setters.{isMargin, sixBits, marginAt, nanoSecondsAt}
 use Rattle.walk.specs.Step.{Found, Heading}
+use Rattle.walk.specs.Stepping.{movedTo}
 use Rattle.walk.specs.Told.{toldStep}
 use Rattle.walk.specs.Walk.{Cmd}
 use Rattle.build.specs.Records.{heldBy, commandBytes, lenByte, packedAt}
 use Rattle.build.specs.declared.record.Record.{Record}
 use Rattle.build.proofs.record.Record.write.Reads as write
 use Rattle.build.proofs.record.Record.pack.Reads as pack
-use Rattle.lent.specs.Iterator.{movedTo, atIndex}
+use Rattle.lent.specs.Iterator.{atIndex}
 use Rattle.lent.specs.declared.iterator.MacCommandIterator.{MacCommandIterator}
 use Rattle.claims.specs.Handing.{NextAsked, NextRecordAsked}
 use Rattle.claims.specs.Handing as Handing

@@ -17,6 +17,7 @@ use Rattle.walk.specs.declared.step.Step.{Step}
 use Rattle.walk.specs.declared.whole.WalkEnd.{WalkEnd}
 use Rattle.walk.proofs.Ownership as Ownership
 use Rattle.walk.proofs.Ownership.{bare-place}
+use Rattle.walk.proofs.Stepping.{steps-reach}
 use Rattle.walk.proofs.Steps.{found-command}
 use Rattle.walk.proofs.Told.{step-tells}
 use Rattle.walk.proofs.step.step_at.Reads as step-at
@@ -192,6 +193,7 @@ one-owner rules stream = record {
   defined = reads rules stream;
   step-defined = λ at r g. g .1 .1;
   walk-defined = λ from w g. g .1 .1;
+  steps-lead = λ from n at h g. g .1 .1 ∙ steps-reach (lengthOf rules) (now stream) from n h .stands;
   up-defined = λ e at r g. g .1 .1 ∙ ap (λ (x : Rules). foundAt (lengthOf x) (now stream) at) (sym e);
   down-defined = λ e at r g. g .1 .1 ∙ ap (λ (x : Rules). foundAt (lengthOf x) (now stream) at) (sym e);
 }

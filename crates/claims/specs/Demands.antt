@@ -1,5 +1,5 @@
 -- The demands (RULES: D1 to D3), each as one statement, and what holds of masks, command types, the seconds, the duty cycle, where a command came
--- from, the chooser, the listing and the ledger. They speak of functions: each holds of every outcome that the contracts of the public functions
+-- from, the chooser, jumps, the listing and the ledger. They speak of functions: each holds of every outcome that the contracts of the public functions
 -- admit, so a body that is changed together with its contract can't pass unless the sentence still holds of it.
 use Prim.Native.Nat.{ℕ}
 use mathlib.Core.List.{List}
@@ -11,6 +11,7 @@ use Rattle.claims.specs.Choosing.{Chooser}
 use Rattle.claims.specs.DutyCycle.{DutyCycleTells}
 use Rattle.claims.specs.Examples.{ExamplesHold, Lifted}
 use Rattle.claims.specs.Flags.{FlagsTell}
+use Rattle.claims.specs.Jumping.{JumpsTell}
 use Rattle.claims.specs.Keeping.{RefusalsKeep, MasksTell}
 use Rattle.claims.specs.Ledger.{LedgerTells}
 use Rattle.claims.specs.Listing.{ListingsTell}
@@ -42,6 +43,8 @@ pub record Demands : Type 2 where
   pub by-hand : ByHand
   -- C1 to C4: where in a frame the commands are
   pub chooser : Lifted Chooser
+  -- J1 to J7: a command by its number
+  pub jumps-tell : Lifted JumpsTell
   -- L1 to L9, L11 and L13: the listing says what is read
   pub listings-tell : ListingsTell
   -- X1 to X17: the ledger names each setting's parent, none is missing and none invented; and D1 as it reads there

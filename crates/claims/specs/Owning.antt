@@ -9,15 +9,16 @@ use Rattle.table.specs.Answers.{Answer, given}
 use Rattle.table.specs.Table.{lengthOf}
 use Rattle.table.specs.declared.rules.Rules.{Rules}
 use Rattle.payloads.specs.Commands.{sentUp, sentDown}
-use Rattle.walk.specs.Ownership.{Ends}
+use Rattle.walk.specs.Ownership.{offsetOf, Ends}
 use Rattle.walk.specs.Part.{shown, partOf, emptyFront}
 use Rattle.walk.specs.Step.{Found, command, Heading, firstOf, foundAt, stepAt, tallyFrom}
 use Rattle.walk.specs.Told.{toldStep, toldUplinkStep, toldDownlinkStep, toldWalk}
-use Rattle.walk.specs.Walk.{Rule, Cmd, Ending, placeOf, WellFormed, encode, size, walkOf}
+use Rattle.walk.specs.Walk.{Rule, Cmd, Ending, placeOf, WellFormed, encode, size, walkFrom, walkOf}
 use Rattle.walk.specs.declared.command.UplinkStep.{UplinkStep}
 use Rattle.walk.specs.declared.command.DownlinkStep.{DownlinkStep}
 use Rattle.walk.specs.declared.step.Step.{Step}
 use Rattle.walk.specs.declared.whole.WalkEnd.{WalkEnd}
+use Rattle.walk.proofs.step.after_steps.Reads as after-steps
 use Rattle.walk.proofs.step.step_at.Reads as step-at
 use Rattle.walk.proofs.step.payload_at.Reads as payload-at
 use Rattle.walk.proofs.command.uplink_at.Reads as uplink-at
@@ -106,6 +107,9 @@ module _ (rules : Rules) (stream : RefT (List ℕ)) where
     -- at every offset, on the walk's way or not, a step finds what the walk from there would begin with; past the stream it is refused with 5 (R5)
     pub step-defined : (at : ℕ) (r : Step) → Gives step-at.Post (rules, (stream, (at, tt))) r → toldStep r ≡ stepAt L s at
     pub walk-defined : (from : ℕ) (w : WalkEnd) → Gives walk-from.Post (rules, (stream, (from, tt))) w → toldWalk w ≡ tallyFrom L s from
+    -- so many steps from an offset of the stream lead to the first command of the walk from there that is left, or to its ending
+    pub steps-lead : (from n at : ℕ) → from ≤ length s → Gives after-steps.Post (rules, (stream, (from, (n, tt)))) at
+        → at ≡ offsetOf (drop n (walkFrom L from (drop from s) .cmds)) (walkFrom L from (drop from s) .ending)
     pub up-defined : rules ≡ sentUp → (at : ℕ) (r : UplinkStep) → Gives uplink-at.Post (stream, (at, tt)) r → toldUplinkStep r ≡ foundAt L s at
     pub down-defined : rules ≡ sentDown → (at : ℕ) (r : DownlinkStep) → Gives downlink-at.Post (stream, (at, tt)) r → toldDownlinkStep r ≡ foundAt L s at
 

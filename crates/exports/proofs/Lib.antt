@@ -1,3 +1,4 @@
 pub mod Determined
 pub mod Faults
+pub mod Jumping
 pub mod Numbers

@@ -1,22 +1,16 @@
 -- An iterator over a stream (RULES: H1, M8): the stream, and an index that its steps move.
-use Prim.Native.Nat.{ℕ, zero, suc}
+use Prim.Native.Nat.{ℕ}
 use mathlib.Core.List.{List}
 use denote.Ref.{RefT}
-use Rattle.table.specs.Answers.{Answer, given, refused}
+use Rattle.table.specs.Answers.{Answer}
 use Rattle.table.specs.Table.{lengthOf}
 use Rattle.table.specs.declared.rules.Rules.{Rules}
 use Rattle.walk.specs.Walk.{Rule}
-use Rattle.walk.specs.Step.{Found, ended, command, stopped, Heading, stepAt}
+use Rattle.walk.specs.Step.{Found, Heading, stepAt}
+use Rattle.walk.specs.Stepping.{movedTo, afterSteps}
 use Rattle.build.specs.Handed.{handedAt}
 use Rattle.build.specs.declared.record.Record.{Record}
 use Rattle.lent.specs.declared.iterator.MacCommandIterator.{MacCommandIterator}
-
--- the offset of the next step: behind a command, and the same where there is none
-abbrev pub movedTo : Answer (Found Heading) → ℕ → ℕ
-movedTo (given (command h next)) at = next
-movedTo (given ended) at = at
-movedTo (given (stopped n o)) at = at
-movedTo (refused n) at = at
 
 abbrev pub fresh : RefT (List ℕ) → Rules → MacCommandIterator
 fresh s rules = record { «data» = s; index = 0; rules = rules }
@@ -41,11 +35,6 @@ handedBy frame it = handedAt (lengthOf (it .rules)) frame (it .«data» .now) (i
 abbrev pub nextedRecord : (frame : ℕ) → MacCommandIterator → (Answer (Found Heading) × Record) × MacCommandIterator
 nextedRecord frame it = (handedBy frame it, nexted it .1)
 
--- the index of a fresh iterator after n calls of `next`
-unfoldable pub indexAfter : Rule → List ℕ → ℕ → ℕ
-indexAfter L s zero = 0
-indexAfter L s (suc n) = movedTo (stepAt L s (indexAfter L s n)) (indexAfter L s n)
-
--- what the call after n others answers
+-- what the call after n others answers: the step behind n others from the front on
 abbrev pub nthAnswer : Rule → List ℕ → ℕ → Answer (Found Heading)
-nthAnswer L s n = stepAt L s (indexAfter L s n)
+nthAnswer L s n = stepAt L s (afterSteps L s 0 n)

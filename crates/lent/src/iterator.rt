@@ -9,9 +9,10 @@ ghost use mathlib.Core.Bool.{cond};
 ghost use lib.Dec.{ltb};
 ghost use Rattle.table.specs.Table.{lengthOf};
 ghost use Rattle.payloads.specs.Commands.{sentUp, sentDown};
+ghost use Rattle.walk.specs.Stepping.{movedTo};
 ghost use Rattle.walk.specs.Told.{toldStep};
 ghost use Rattle.build.specs.Told.{toldHanded};
-ghost use Rattle.lent.specs.Iterator.{movedTo, fresh, nexted, nextedRecord, nthAnswer};
+ghost use Rattle.lent.specs.Iterator.{fresh, nexted, nextedRecord, nthAnswer};
 
 // A stream, the offset in it at which the next command stands, and the rules that it is read by.
 pub struct MacCommandIterator<'a> {

@@ -1,11 +1,12 @@
--- No payload of the table is longer than five bytes. Assumes nothing.
-use Prim.Native.Nat.{ℕ, _≤_}
-use mathlib.Core.Path.{_≡_}
+-- No payload of the table is longer than five bytes, and its CIDs are bytes from 2 on. Assumes nothing.
+use Prim.Native.Nat.{ℕ, _≤_, _<_}
+use mathlib.Core.Path.{_≡_, refl}
 use mathlib.Core.Bool.{Bool, true, false, cond}
 use mathlib.Core.List.{List, [], _∷_}
 use mathlib.Core.Option.{Option, none, some}
 use native.Mathlib.Omega.{arith}
 use lib.Dec.{eqb, lit≤}
+use borrow.Author.Tests.{eqb-true}
 use Rattle.table.specs.declared.rules.Direction.{Direction}
 use Rattle.table.specs.declared.rules.Direction.the-variants.{Down, Up}
 use Rattle.table.specs.declared.rules.Rules.{Rules}
@@ -35,3 +36,22 @@ at-most-five rules c n e = length-within 5 rows five (rules .direction) c n e
   where
     five : Within 5 rows
     five = (lit≤ tt, lit≤ tt, (lit≤ tt, lit≤ tt, (lit≤ tt, lit≤ tt, (lit≤ tt, lit≤ tt, (lit≤ tt, lit≤ tt, (lit≤ tt, lit≤ tt, (lit≤ tt, lit≤ tt, (lit≤ tt, lit≤ tt, (lit≤ tt, lit≤ tt, (lit≤ tt, lit≤ tt, tt))))))))))
+
+abbrev Bytes : List Row → Type 0
+Bytes [] = Unit
+Bytes (r ∷ rs) = (2 ≤ r .cid) × (r .cid ≤ 255) × Bytes rs
+
+cid-within : (rs : List Row) → Bytes rs → (d : Direction) (c n : ℕ) → lengthIn rs d c ≡ some n → (2 ≤ c) × (c < 256)
+cid-within [] w d c n e = let z : _≡_ {A = ℕ} 0 1 = cc in absurd (omega arith)
+cid-within (r ∷ rs) w d c n e = by (eqb c (r .cid)) refl (cid-within rs (w .2) d c n) e
+  where
+    by : (t : Bool) → eqb c (r .cid) ≡ t → (lengthIn rs d c ≡ some n → (2 ≤ c) × (c < 256))
+        → cond t (some (sideOf d (r .bytesDown) (r .bytesUp))) (lengthIn rs d c) ≡ some n → (2 ≤ c) × (c < 256)
+    by true q ih e = let same = eqb-true c (r .cid) q in (omega (arith, w .0), omega (arith, w .1))
+    by false q ih e = ih e
+
+pub cid-from-two : (rules : Rules) (c n : ℕ) → lengthOf rules c ≡ some n → (2 ≤ c) × (c < 256)
+cid-from-two rules c n e = cid-within rows bytes (rules .direction) c n e
+  where
+    bytes : Bytes rows
+    bytes = (lit≤ tt, lit≤ tt, (lit≤ tt, lit≤ tt, (lit≤ tt, lit≤ tt, (lit≤ tt, lit≤ tt, (lit≤ tt, lit≤ tt, (lit≤ tt, lit≤ tt, (lit≤ tt, lit≤ tt, (lit≤ tt, lit≤ tt, (lit≤ tt, lit≤ tt, (lit≤ tt, lit≤ tt, tt))))))))))

@@ -25,6 +25,7 @@ use Rattle.table.specs.declared.refusal.Refusal.the-variants.{
   ListTooLong,
   PendingFull,
   BadTraceLine,
+  NoSuchCommand,
 }
 use Rattle.table.specs.declared.refusal.Verdict.{Verdict}
 use Rattle.table.specs.declared.refusal.Verdict.the-variants.{Accepted, Refused}
@@ -53,12 +54,13 @@ refusals =
     PayloadWithoutPort ∷
     ListTooLong ∷
     PendingFull ∷
-    BadTraceLine ∷ []
+    BadTraceLine ∷
+    NoSuchCommand ∷ []
 
 -- the refusal of a number
 unfoldable pub numbered : ℕ → Refusal
 unfolding refusals
-numbered n = getD refusals (n - 1) BadTraceLine
+numbered n = getD refusals (n - 1) NoSuchCommand
 
 pub numbered-number : (r : Refusal) → numbered (numberOf r) ≡ r
 unfolding numbered refusals
@@ -80,6 +82,7 @@ numbered-number PayloadWithoutPort = refl
 numbered-number ListTooLong = refl
 numbered-number PendingFull = refl
 numbered-number BadTraceLine = refl
+numbered-number NoSuchCommand = refl
 
 lengthTold : Option ℕ → Length
 lengthTold none = Unknown

@@ -1,4 +1,4 @@
--- The numbers of the refusals (RULES: R1 to R18).
+-- The numbers of the refusals (RULES: R1 to R19).
 use Prim.Native.Nat.{ℕ}
 use Rattle.table.specs.declared.refusal.Refusal.{Refusal}
 use Rattle.table.specs.declared.refusal.Refusal.the-variants.{
@@ -20,6 +20,7 @@ use Rattle.table.specs.declared.refusal.Refusal.the-variants.{
   ListTooLong,
   PendingFull,
   BadTraceLine,
+  NoSuchCommand,
 }
 
 abbrev pub numberOf : Refusal → ℕ
@@ -41,3 +42,4 @@ numberOf PayloadWithoutPort = 15
 numberOf ListTooLong = 16
 numberOf PendingFull = 17
 numberOf BadTraceLine = 18
+numberOf NoSuchCommand = 19

@@ -1,4 +1,4 @@
-// The refusals, R1 to R18 of docs/RULES.md in their order. Each is given when its line says so, and in no other case.
+// The refusals, R1 to R19 of docs/RULES.md in their order. Each is given when its line says so, and in no other case.
 ghost use mathlib.Core.Path.{_≡_};
 ghost use Rattle.table.specs.Refusals.{numberOf};
 
@@ -9,9 +9,9 @@ pub enum Refusal {
     TruncatedPayload,
     // More or fewer bytes than a sized payload or a `Frequency` has; a record that states another length than the table.
     WrongLength,
-    // No room for the total; too few bytes for a mask.
+    // No room for the total, or for a stream's entries; too few bytes for a mask; no entry that covers a command.
     BufferTooShort,
-    // A channel or a bank that the mask has not; an offset behind the end of the stream.
+    // A channel or a bank that the mask has not; an offset or an entry behind the end of the stream; a stream too long for entries.
     InvalidIndex,
     // A range, made with the check, whose highest rate is below its lowest.
     InvalidDataRateRange,
@@ -39,6 +39,8 @@ pub enum Refusal {
     PendingFull,
     // Ledger: a line of a trace that has not the form.
     BadTraceLine,
+    // Jump: the walk from the entry stops or ends before the command.
+    NoSuchCommand,
 }
 
 impl Refusal {
@@ -65,6 +67,7 @@ impl Refusal {
             Refusal::ListTooLong => 16,
             Refusal::PendingFull => 17,
             Refusal::BadTraceLine => 18,
+            Refusal::NoSuchCommand => 19,
         }
     }
 }

@@ -9,6 +9,7 @@ use Rattle.walk.proofs.chooser.choose_verdict.Reads as choose-verdict
 use Rattle.walk.proofs.chooser.choose.Reads as choose
 use Rattle.walk.proofs.command.uplink_at.Reads as uplink-at
 use Rattle.walk.proofs.command.downlink_at.Reads as downlink-at
+use Rattle.walk.proofs.step.after_steps.Reads as after-steps
 use Rattle.walk.proofs.step.step_at.Reads as step-at
 use Rattle.walk.proofs.step.payload_at.Reads as payload-at
 use Rattle.walk.proofs.whole.walk_from.Reads as walk-from
@@ -31,6 +32,9 @@ step-at-one _ _ _ _ _ _ p q = step-tells (p ∙ sym q)
 
 payload-at-one : FixedPart payload-at.Post
 payload-at-one _ _ _ _ _ _ p q = p ∙ sym q
+
+after-steps-one : Fixed after-steps.Post
+after-steps-one _ _ _ _ _ _ p q = p ∙ sym q
 
 walk-from-one : Fixed walk-from.Post
 walk-from-one _ _ _ _ _ _ p q = walk-tells (p ∙ sym q)

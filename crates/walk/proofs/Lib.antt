@@ -5,5 +5,6 @@ pub mod Laws
 pub mod Onward
 pub mod Ownership
 pub mod Parts
+pub mod Stepping
 pub mod Steps
 pub mod Told

@@ -5,5 +5,6 @@ pub mod Ownership
 pub mod Part
 pub mod Room
 pub mod Step
+pub mod Stepping
 pub mod Told
 pub mod Walk

@@ -13,6 +13,7 @@ pub use command::UplinkStep;
 pub use command::downlink_at;
 pub use command::uplink_at;
 pub use step::Step;
+pub use step::after_steps;
 pub use step::payload_at;
 pub use step::step_at;
 pub use whole::Outcome;

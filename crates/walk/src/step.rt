@@ -5,6 +5,7 @@ ghost use mathlib.Core.Path.{_≡_};
 ghost use Rattle.table.specs.Table.{lengthOf};
 ghost use Rattle.walk.specs.Part.{shown, payloadPart};
 ghost use Rattle.walk.specs.Step.{stepAt};
+ghost use Rattle.walk.specs.Stepping.{afterSteps};
 ghost use Rattle.walk.specs.Told.{toldStep};
 
 // What stands at an offset of a stream.
@@ -73,4 +74,29 @@ pub fn payload_at(rules: Rules, stream: &[u8], at: usize) -> &[u8]
         Step::Stop { reason: _, at: _ } => &stream[..0],
         Step::Refused(_) => &stream[..0],
     }
+}
+
+// The offset after n steps, the first of them at an offset. Where a step finds no command, those behind it stay there.
+pub fn after_steps(rules: Rules, stream: &[u8], from: usize, n: usize) -> usize
+    ensures { λ r. ⌜ r ≡ afterSteps (lengthOf rules) (now (stream .entry)) from n ⌝ }
+{
+    let mut at = from;
+    let mut made: usize = 0;
+    while made < n {
+        let found = step_at(rules, stream, at);
+        match found {
+            Step::Command {
+                cid: _,
+                len: _,
+                next,
+            } => {
+                at = next;
+                made += 1;
+            }
+            Step::End => break,
+            Step::Stop { reason: _, at: _ } => break,
+            Step::Refused(_) => break,
+        }
+    }
+    at
 }

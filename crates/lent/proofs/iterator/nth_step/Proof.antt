@@ -53,13 +53,15 @@ use Rattle.table.proofs.rules.Rules as R
 use Rattle.table.proofs.rules.Rules.Laws as R′
 use Rattle.walk.specs.Walk.{Rule}
 use Rattle.walk.specs.Step.{Found, Heading}
+use Rattle.walk.specs.Stepping.{afterSteps}
 use Rattle.walk.specs.Told.{toldStep}
 use Rattle.walk.specs.declared.step.Step.{Step}
+use Rattle.walk.proofs.Stepping.{none-made, one-more}
 use Rattle.walk.proofs.step.Step as S
 use Rattle.walk.proofs.step.Step.Laws as S′
-use Rattle.lent.specs.Iterator.{fresh, nexted, indexAfter, nthAnswer}
+use Rattle.lent.specs.Iterator.{fresh, nexted, nthAnswer}
 use Rattle.lent.specs.declared.iterator.MacCommandIterator.{MacCommandIterator}
-use Rattle.lent.proofs.Iteration.{one-call, no-more-calls, none-called}
+use Rattle.lent.proofs.Iteration.{no-more-calls}
 use Rattle.lent.proofs.Lending.{Lent, lends-local, local-back}
 use Rattle.lent.proofs.Values.{rulesVal, gives-usize, gives-rules, usize-typed, rules-typed, step-typed}
 use Rattle.lent.proofs.Walking.{Met, asks, leaves, none-left, vacant, holding}
@@ -148,13 +150,13 @@ module _ {M : Type 1} (𝓤 : URA M) (H : Heap 𝓤) (A : Atoms 𝓤) (W : Given
 
   -- the iterator after i calls
   abbrev it : ℕ → MacCommandIterator
-  it i = record { «data» = s; index = indexAfter L (s .now) i; rules = rules }
+  it i = record { «data» = s; index = afterSteps L (s .now) 0 i; rules = rules }
 
   it-start : fresh s rules ≡ it 0
-  it-start = ap (λ (k : ℕ). record { «data» = s; index = k; rules = rules }) (none-called L (s .now))
+  it-start = ap (λ (k : ℕ). record { «data» = s; index = k; rules = rules }) (none-made L (s .now) 0)
 
   it-next : (i : ℕ) (t : Answer (Found Heading)) (d : MacCommandIterator) → (t, d) ≡ nexted (it i) → d ≡ it (i + 1)
-  it-next i t d e = ap (λ x. x .1) e ∙ ap (λ (k : ℕ). record { «data» = s; index = k; rules = rules }) (one-call L (s .now) i)
+  it-next i t d e = ap (λ x. x .1) e ∙ ap (λ (k : ℕ). record { «data» = s; index = k; rules = rules }) (one-more L (s .now) 0 i)
 
   abbrev at : Vals nth-step.signature (κ, tt)
   at = (u ∷ [], (v ∷ [], (vint w64 n ∷ [], tt)))

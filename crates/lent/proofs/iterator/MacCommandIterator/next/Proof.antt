@@ -42,6 +42,7 @@ use denote.Triple.Table.{entered, cited}
 use denote.Triple.Walked.{says, Stays, stay-ref, walkOf, goes-ref, Walks, ends-at, walked, walk-meets}
 use Rattle.table.specs.Answers.{Answer}
 use Rattle.walk.specs.Step.{Found, Heading}
+use Rattle.walk.specs.Stepping.{movedTo}
 use Rattle.walk.specs.Told.{toldStep}
 use Rattle.walk.specs.declared.step.Step.{Step}
 use Rattle.walk.proofs.step.Step as S
@@ -49,7 +50,7 @@ use Rattle.walk.proofs.step.step_at as step-at
 use Rattle.walk.proofs.step.step_at.Symbol as step-at-def
 use Rattle.walk.proofs.step.step_at.Symbol.{name as #step-at}
 use Rattle.walk.proofs.step.step_at.Met as step-at-thm
-use Rattle.lent.specs.Iterator.{movedTo, stepOf, atIndex, nexted}
+use Rattle.lent.specs.Iterator.{stepOf, atIndex, nexted}
 use Rattle.lent.specs.declared.iterator.MacCommandIterator.{MacCommandIterator}
 use Rattle.lent.proofs.Values.{rulesVal, gives-usize, gives-rules, gives-step, usize-typed, rules-typed, step-typed}
 use Rattle.lent.proofs.Walking.{Met, asks, leaves, none-left, holding}

@@ -43,6 +43,7 @@ use denote.Triple.Walked.{says, Stays, stay-ref, stay-none, walkOf, goes-ref, go
 use denote.Exit.{yes}
 use Rattle.table.specs.Answers.{Answer}
 use Rattle.walk.specs.Step.{Found, Heading}
+use Rattle.walk.specs.Stepping.{movedTo}
 use Rattle.walk.specs.Told.{toldStep}
 use Rattle.walk.proofs.step.Step as S
 use Rattle.build.specs.Told.{toldHanded}
@@ -54,7 +55,7 @@ use Rattle.build.proofs.handed.record_at as record-at
 use Rattle.build.proofs.handed.record_at.Symbol as record-at-def
 use Rattle.build.proofs.handed.record_at.Symbol.{name as #record-at}
 use Rattle.build.proofs.handed.record_at.Met as record-at-thm
-use Rattle.lent.specs.Iterator.{movedTo, handedBy, atIndex, nextedRecord}
+use Rattle.lent.specs.Iterator.{handedBy, atIndex, nextedRecord}
 use Rattle.lent.specs.declared.iterator.MacCommandIterator.{MacCommandIterator}
 use Rattle.lent.proofs.Values.{rulesVal, stepVal, handedVal, gives-usize, gives-u32, gives-rules, gives-step, gives-handed, usize-typed, rules-typed, handed-typed}
 use Rattle.lent.proofs.Walking.{Met, asks, leaves, none-left, holding}

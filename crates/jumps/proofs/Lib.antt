@@ -1,0 +1,4 @@
+pub mod Determined
+pub mod Making
+pub mod Reaching
+pub mod Told
