@@ -50,7 +50,7 @@ extern "C" {
     fn nazhdivar_jump(stream: *const u8, len: usize, entries: *const u32, many: usize, n: usize) -> u64;
 }
 
-/// Writes the offset of every sixteenth command, and answers how many; from 2^32 on, a refusal.
+/// Writes the entries of a stream, and answers how many; from 2^32 on, a refusal.
 #[inline(never)]
 fn entries(stream: &[u8], numbers: &mut [u32]) -> u64 {
     unsafe { nazhdivar_entries(stream.as_ptr(), stream.len(), numbers.as_mut_ptr(), numbers.len()) }

@@ -1,4 +1,5 @@
-"""The port's index of every sixteenth command and its jump, beside a few lines that know the command table and the request alone.
+"""The port's entries of a stream and its jump by them, beside a few lines that know the command table, the request and the form of the answers alone. The
+streams are those sent down, which the crate exports is for.
 
 python3 compare.py LIBRARY SEED COUNT   LIBRARY is the crate exports as a shared library; streams made by chance, the same from the same seed
 python3 compare.py LIBRARY long         streams about 4,294,967,295 bytes long
@@ -16,7 +17,7 @@ DOWN = {0x02: 2, 0x03: 4, 0x04: 1, 0x05: 4, 0x06: 0, 0x07: 5, 0x08: 1, 0x09: 1, 
 CIDS = tuple(DOWN)
 UNKNOWN = tuple(byte for byte in range(256) if byte not in DOWN)
 
-# The most that a number holds, and the most bytes of a stream that is indexed.
+# The most that a number holds, and the most bytes of a stream that entries are made of.
 MOST = 0xFFFFFFFF
 
 # What no entry covers, though a part of its bits may be a command's number.
@@ -76,13 +77,14 @@ def making(port, stream, start, rng):
 
 def asking(port, stream, start, entries, questions):
     held = array.array("I", [0] * AROUND + entries + [0] * AROUND)
+    before = held[:]
     for n in questions:
         answer = jumped(stream, entries, n)
         said = port.nazhdivar_jump(start, len(stream), address(held) + 4 * AROUND, len(entries), n)
         if said != answer:
             yield difference(stream, f"jump to {n} by entries {entries}", answer, said)
-    if held.tolist()[AROUND:-AROUND] != entries:
-        yield difference(stream, "jump, the entries afterwards", entries, held.tolist()[AROUND:-AROUND])
+    if held != before:
+        yield difference(stream, f"jump, the entries afterwards, with {AROUND} numbers around them", before.tolist(), held.tolist())
 
 
 def around_each(rng, entries):

@@ -1,6 +1,6 @@
 -- Jumping to a command by its number: crates/claims/specs/Jumping.antt. Assumes nothing.
 use Prim.Native.Nat.{ℕ, _+_, _*_, _/_, _%_, _≤_, _<_}
-use mathlib.Core.List.{List, _++_}
+use mathlib.Core.List.{List, [], _∷_, _++_}
 use mathlib.Core.Path.{_≡_, refl, sym, ap, _∙_, subst}
 use native.Mathlib.Omega.{arith}
 use denote.Ref.{RefT, now}
@@ -16,6 +16,7 @@ use Rattle.walk.specs.Ownership.{offsetOf}
 use Rattle.walk.specs.Step.{Found, ended, command, stopped, Heading, heading, foundAt, stepAt}
 use Rattle.walk.specs.Stepping.{afterSteps}
 use Rattle.walk.specs.Walk.{Rule, Placed, go, walkFrom, walkOf}
+use Rattle.walk.proofs.Steps.{step-on}
 use Rattle.jumps.specs.Entries.{entriesOf, made}
 use Rattle.jumps.specs.Jump.{Spot, spotted, jumped}
 use Rattle.jumps.specs.Told.{toldEntries, toldJump}
@@ -23,14 +24,22 @@ use Rattle.jumps.specs.declared.entries.EntriesAnswer.{EntriesAnswer}
 use Rattle.jumps.specs.declared.jump.JumpAnswer.{JumpAnswer}
 use Rattle.jumps.proofs.Making.{entry-at, entries-count, made-short, made-long, made-all, Making, short, long, all, making}
 use Rattle.jumps.proofs.Reaching.{entry-past, none-covers, covered, Jumping, uncovered, past, there, jumping, reached, not-reached, by-own}
+use Rattle.build.specs.declared.handed.Handed.{Handed}
+use Rattle.build.proofs.handed.record_at.Reads as record-at
 use Rattle.claims.specs.Jumping.{Makes, Asks, Nth, entriesFor, EntriesIn, MakingTells, OwnTells, MadeOf, AnyTells, RecordIs, MakesAs, JumpsAs, SeventeenCommands, StopAfterSixteen, EntriesOfAnother, EmptyStream, JumpsTell}
+use Rattle.claims.specs.Outcomes.{Gives}
+use Rattle.claims.proofs.Origins.{record-says}
 
 not-both : {A : Type 0} {x : A} {k : ℕ} → refused k ≡ given x → ⊥
 not-both e = let no-way : _≡_ {A = ℕ} 0 1 = cc in omega arith
 
--- the n-th is one of them
-in-list : (ps : List Placed) (n : ℕ) {p : Placed} → Nth ps n p → n < length ps
-in-list ps n x = omega (arith, length-drop n ps, ap length (x .1))
+-- as many commands are there as the list has
+nth-of : (ps : List Placed) (n : ℕ) {So : Placed → Type 0} → n < length ps → ((p : Placed) (behind : List Placed) → drop n ps ≡ p ∷ behind → So p) → Nth ps n So
+nth-of ps n {So} h so = by (drop n ps) refl
+  where
+    by : (l : List Placed) → drop n ps ≡ l → Nth ps n So
+    by [] e = absurd (omega (arith, length-drop n ps, ap length e))
+    by (p ∷ behind) e = record { nth = p; behind = behind; there = e; so = so p behind e }
 
 module _ (L : Rule) (s : List ℕ) where
   abbrev cmds : List Placed
@@ -45,12 +54,12 @@ module _ (L : Rule) (s : List ℕ) where
   entries-in numbers h =
       let n = entries-count L s in
       record {
-        each = λ k p x.
-            let i : k < length entries = omega (arith, in-list cmds (16 * k) x) in
+        each = λ k h. nth-of cmds (16 * k) (omega arith) (λ p behind e.
+            let i : k < length entries = omega arith in
             ap (λ (l : List ℕ). getD l k 0) (over-front numbers entries)
             ∙ List·getD-append entries (drop (length entries) numbers) 0 k i
             ∙ entry-at k cmds (walkOf L s .ending) i
-            ∙ ap (λ (l : List Placed). offsetOf l (walkOf L s .ending)) (x .1);
+            ∙ ap (λ (l : List Placed). offsetOf l (walkOf L s .ending)) e);
         others =
             let e : 0 + length entries + 0 ≡ entriesFor (length cmds) = omega arith in
             subst (λ (i : ℕ). drop i (over numbers 0 entries) ≡ drop i numbers) e (over-drop numbers 0 entries (omega arith) 0);
@@ -94,7 +103,7 @@ module _ (L : Rule) (s : List ℕ) where
   own-tells n =
       let m = entries-count L s in
       record {
-        nth = λ p x. by-own L s n (omega (arith, in-list cmds n x)) ∙ reached L s 0 n (omega arith) (x .1);
+        nth = λ h. nth-of cmds n h (λ p behind e. by-own L s n (omega arith) ∙ reached L s 0 n (omega arith) e);
         near = λ h g. by-own L s n (omega arith) ∙ not-reached L s 0 n (omega arith) (drop-of-length-le cmds {i = n} h);
         far = λ h. sym (none-covers L s entries n (omega arith));
       }
@@ -103,7 +112,8 @@ module _ (L : Rule) (s : List ℕ) where
   any-tells es n = record {
     none = λ h. sym (none-covers L s es n h);
     past = λ h g. sym (covered L s es n h (entry-past L s (getD es (n / 16) 0) (n % 16) g));
-    nth = λ h g p x. sym (covered L s es n h refl) ∙ reached L s (getD es (n / 16) 0) (n % 16) g (x .1);
+    nth = λ h g i. nth-of (walkFrom L (getD es (n / 16) 0) (drop (getD es (n / 16) 0) s) .cmds) (n % 16) i
+        (λ p behind e. sym (covered L s es n h refl) ∙ reached L s (getD es (n / 16) 0) (n % 16) g e);
     ends = λ h g e. sym (covered L s es n h refl) ∙ not-reached L s (getD es (n / 16) 0) (n % 16) g (drop-of-length-le (walkFrom L (getD es (n / 16) 0) (drop (getD es (n / 16) 0) s) .cmds) {i = n % 16} e);
   }
 
@@ -116,11 +126,19 @@ module _ (L : Rule) (s : List ℕ) where
   spotted-by at (given (stopped n o)) e = absurd (not-both e)
   spotted-by at (refused n) e = absurd (not-both e)
 
-  -- so `record_at` finds it there
-  told-by : (es : List ℕ) (n : ℕ) {x : Spot} → jumped L s es n ≡ given x → (next : ℕ) × (stepAt L s (x .at) ≡ given (command (heading (x .cid) (x .len)) next))
-  told-by es n {x} e = by (jumping L s es n) e
+  -- so a step finds it there
+  abbrev FoundThere : Spot → Type 0
+  FoundThere x = (next : ℕ) × (stepAt L s (x .at) ≡ given (command (heading (x .cid) (x .len)) next))
+
+  told-by : (es : List ℕ) (n : ℕ) {x : Spot} → jumped L s es n ≡ given x → stepAt L s (x .at) ≡ given (command (heading (x .cid) (x .len)) (x .at + (1 + x .len)))
+  told-by es n {x} e = behind (by (jumping L s es n) e)
     where
-      by : {a : Answer Spot} → Jumping L s es n a → a ≡ given x → (next : ℕ) × (stepAt L s (x .at) ≡ given (command (heading (x .cid) (x .len)) next))
+      behind : FoundThere x → stepAt L s (x .at) ≡ given (command (heading (x .cid) (x .len)) (x .at + (1 + x .len)))
+      behind f =
+          let next-is : f .0 ≡ x .at + (1 + x .len) = omega (arith, step-on L s (x .at) (f .1) .0) in
+          f .1 ∙ ap (λ (k : ℕ). given (command (heading (x .cid) (x .len)) k)) next-is
+
+      by : {a : Answer Spot} → Jumping L s es n a → a ≡ given x → FoundThere x
       by (uncovered h) f = absurd (not-both f)
       by (past h g) f = absurd (not-both f)
       by (there h g) f =
@@ -130,10 +148,11 @@ module _ (L : Rule) (s : List ℕ) where
 
 -- ---- of the functions
 
-its-record : (rules : Rules) (stream entries : RefT (List ℕ)) (n : ℕ) (r : JumpAnswer) (x : Spot) → Asks rules stream entries n r → toldJump r ≡ given x → RecordIs rules stream x
-its-record rules stream entries n r x q e frame h g =
-    let t = told-by (lengthOf rules) (now stream) (now entries) n (sym (q .1 .1) ∙ e) in
-    (t .0, ap (λ a. a .0) (g .1 .1) ∙ t .1)
+its-record : (rules : Rules) (stream entries : RefT (List ℕ)) (n : ℕ) (r : JumpAnswer) (x : Spot) → Asks rules stream entries n r → toldJump r ≡ given x
+    → (frame : ℕ) (q : Handed) → Gives record-at.Post (rules, (frame, (stream, (x .at, tt)))) q → RecordIs rules stream x frame q
+its-record rules stream entries n r x a e frame q g =
+    let found = ap (λ y. y .0) (g .1 .1) ∙ told-by (lengthOf rules) (now stream) (now entries) n (sym (a .1 .1) ∙ e) in
+    record { its-step = found; its-record = λ p h. record-says rules frame stream (x .at) q (g .1 .1) (heading (x .cid) (x .len)) _ p found h }
 
 -- an answer, and numbers that are left, by what is said of both
 told-with : {a : Answer ℕ} {o after : List ℕ} {x : Answer ℕ × List ℕ} → (a, o) ≡ x → o ≡ after → (a, after) ≡ x

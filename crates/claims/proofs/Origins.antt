@@ -76,7 +76,7 @@ not-command (given (stopped k o)) n = refl
 not-command (refused k) n = refl
 
 -- the step's command, with the payload that is shown, is the one that stands there
-record-says : (rules : Rules) (frame : ℕ) (stream : RefT (List ℕ)) (at : ℕ) (r : Handed) → toldHanded r ≡ handedAt (lengthOf rules) frame (now stream) at
+pub record-says : (rules : Rules) (frame : ℕ) (stream : RefT (List ℕ)) (at : ℕ) (r : Handed) → toldHanded r ≡ handedAt (lengthOf rules) frame (now stream) at
     → (h : Heading) (next : ℕ) (p : RefT (List ℕ)) → toldStep (r .step) ≡ given (command h next) → Gives payload-at.Post (rules, (stream, (at, tt))) p
     → Says frame at h (now p) (r .«record»)
 record-says rules frame stream at r e h next p t g =

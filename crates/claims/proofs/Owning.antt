@@ -12,20 +12,21 @@ use Rattle.payloads.specs.Commands.{sentUp, sentDown}
 use Rattle.walk.specs.Ownership.{offsetOf, Ends}
 use Rattle.walk.specs.Part.{shown, payloadPart, partOf, emptyFront}
 use Rattle.walk.specs.Step.{Found, ended, command, stopped, Heading, firstOf, foundAt, inNumbers, stepAt}
-use Rattle.walk.specs.Walk.{Rule, Cmd, Placed, Ending, placeOf, WellFormed, encode, size, place, bare, walkOf}
+use Rattle.walk.specs.Walk.{Rule, Cmd, Placed, Ending, placeOf, WellFormed, encode, size, place, bare, walkFrom, walkOf}
 use Rattle.walk.specs.declared.step.Step.{Step}
 use Rattle.walk.specs.declared.whole.WalkEnd.{WalkEnd}
 use Rattle.walk.proofs.Ownership as Ownership
 use Rattle.walk.proofs.Ownership.{bare-place}
-use Rattle.walk.proofs.Stepping.{steps-reach}
+use Rattle.walk.proofs.Stepping.{steps-reach, steps-stay}
 use Rattle.walk.proofs.Steps.{found-command}
 use Rattle.walk.proofs.Told.{step-tells}
+use Rattle.walk.proofs.step.after_steps.Reads as after-steps
 use Rattle.walk.proofs.step.step_at.Reads as step-at
 use Rattle.walk.proofs.step.payload_at.Reads as payload-at
 use Rattle.walk.proofs.whole.walk.Reads as walk
 use Rattle.claims.specs.Handing.{Front, withPayload, NoCommand, none-handed, itself, steps, uplinkSteps, downlinkSteps, iterator, recordSteps, recordIterator, commandsOf}
 use Rattle.claims.specs.Outcomes.{Gives}
-use Rattle.claims.specs.Owning.{OwnsBytes, StopsThere, Begins, all-out, coming, FrontsBegin, OneOwnerBy, WholeWalk, ShownBehind, OneOwner, NextIsStep}
+use Rattle.claims.specs.Owning.{OwnsBytes, StopsThere, Begins, all-out, coming, FrontsBegin, OneOwnerBy, WholeWalk, ShownBehind, LedTo, OneOwner, NextIsStep}
 use Rattle.claims.proofs.Handing.{bare-append, next-says, stands-behind, toldAt, Faithful, Position, position, out-bare, answered-first, reads, steps-faithful, uplink-faithful, downlink-faithful, iterator-faithful, commands-faithful, records-faithful, record-iterator-faithful}
 
 -- ---- lists
@@ -178,6 +179,17 @@ module _ (rules : Rules) (stream : RefT (List ℕ)) where
       none (given (stopped k o)) n e = e
       none (refused k) n e = e
 
+  led-to : (from n at : ℕ) → from ≤ length (now stream) → Gives after-steps.Post (rules, (stream, (from, (n, tt)))) at → LedTo rules stream from n at
+  led-to from n at h g =
+      let L = lengthOf rules in
+      let s = now stream in
+      let r = steps-reach (lengthOf rules) (now stream) from n h in
+      record {
+        rest = ap (λ (k : ℕ). walkFrom L k (drop k s)) (g .1 .1) ∙ r .rest;
+        stands = g .1 .1 ∙ r .stands;
+        finds = λ q f. f .1 .1 ∙ ap (stepAt L s) (g .1 .1) ∙ ap inNumbers (r .finds);
+      }
+
 pub one-owner : (rules : Rules) (stream : RefT (List ℕ)) → OneOwner rules stream
 one-owner rules stream = record {
   by-steps = one-owner-by rules stream (steps rules stream) (steps-faithful rules stream);
@@ -193,7 +205,8 @@ one-owner rules stream = record {
   defined = reads rules stream;
   step-defined = λ at r g. g .1 .1;
   walk-defined = λ from w g. g .1 .1;
-  steps-lead = λ from n at h g. g .1 .1 ∙ steps-reach (lengthOf rules) (now stream) from n h .stands;
+  steps-lead = led-to rules stream;
+  steps-stay = λ from n at h g. g .1 .1 ∙ steps-stay (lengthOf rules) (now stream) from n h;
   up-defined = λ e at r g. g .1 .1 ∙ ap (λ (x : Rules). foundAt (lengthOf x) (now stream) at) (sym e);
   down-defined = λ e at r g. g .1 .1 ∙ ap (λ (x : Rules). foundAt (lengthOf x) (now stream) at) (sym e);
 }

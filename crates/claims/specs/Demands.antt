@@ -43,7 +43,7 @@ pub record Demands : Type 2 where
   pub by-hand : ByHand
   -- C1 to C4: where in a frame the commands are
   pub chooser : Lifted Chooser
-  -- J1 to J7: a command by its number
+  -- J1 to J7 and J9: a command by its number
   pub jumps-tell : Lifted JumpsTell
   -- L1 to L9, L11 and L13: the listing says what is read
   pub listings-tell : ListingsTell

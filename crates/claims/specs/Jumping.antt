@@ -1,5 +1,6 @@
 -- Jumping to a command by its number (RULES: J1 to J7, J9), of every outcome that the contracts admit: what the making of entries leaves, what is answered
--- with the entries that were made, and what with any others. The walk's list is the one that every function of D3 hands out (`defined`, Owning.antt).
+-- with the entries that were made, and what with any others. The walk's list is the one that every function of D3 hands out (`defined`, Owning.antt);
+-- that of a walk from an entry is the one along which steps from there lead (`steps-lead`).
 use Prim.Native.Nat.{ℕ, zero, suc, _+_, _*_, _/_, _%_, _≤_, _<_}
 use mathlib.Core.List.{List, [], _∷_}
 use mathlib.Core.Path.{_≡_}
@@ -18,9 +19,11 @@ use Rattle.jumps.specs.Told.{toldEntries, toldJump}
 use Rattle.jumps.specs.declared.entries.EntriesAnswer.{EntriesAnswer}
 use Rattle.jumps.specs.declared.jump.JumpAnswer.{JumpAnswer}
 use Rattle.build.specs.declared.handed.Handed.{Handed}
+use Rattle.walk.proofs.step.payload_at.Reads as payload-at
 use Rattle.jumps.proofs.entries.make_entries.Reads as make-entries
 use Rattle.jumps.proofs.jump.jump_to.Reads as jump-to
 use Rattle.build.proofs.handed.record_at.Reads as record-at
+use Rattle.claims.specs.Origins.{Says}
 use Rattle.claims.specs.Outcomes.{Gives, GivesWith}
 
 -- whatever the making may answer, and how it may leave the numbers
@@ -31,9 +34,12 @@ Makes rules stream numbers r after = GivesWith (λ s. now (s .1 .1 .0)) make-ent
 abbrev pub Asks : Rules → (stream entries : RefT (List ℕ)) → (n : ℕ) → JumpAnswer → Type 0
 Asks rules stream entries n r = Gives jump-to.Post (rules, (stream, (entries, (n, tt)))) r
 
--- the n-th of these commands, counted from 0, is p
-abbrev pub Nth : List Placed → ℕ → Placed → Type 0
-Nth ps n p = (behind : List Placed) × (drop n ps ≡ p ∷ behind)
+-- there is an n-th of these commands, counted from 0, of which this is so
+pub record Nth (ps : List Placed) (n : ℕ) (So : Placed → Type 0) : Type 0 where
+  pub nth : Placed
+  pub behind : List Placed
+  pub there : drop n ps ≡ nth ∷ behind
+  pub so : So nth
 
 -- how many entries so many commands have: a sixteenth, rounded up
 abbrev pub entriesFor : ℕ → ℕ
@@ -41,13 +47,13 @@ entriesFor n = (n + 15) / 16
 
 -- ---- making
 
--- the entries of these commands in lent numbers: command 16 k has its offset at place k, and behind the entries all is as it was
+-- the entries of these commands in lent numbers: at place k stands the offset of command 16 k, and behind the entries all is as it was
 pub record EntriesIn (cmds : List Placed) (before after : List ℕ) : Type 0 where
-  pub each : (k : ℕ) (p : Placed) → Nth cmds (16 * k) p → getD after k 0 ≡ p .at
+  pub each : (k : ℕ) → k < entriesFor (length cmds) → Nth cmds (16 * k) (λ (p : Placed). getD after k 0 ≡ p .at)
   pub others : drop (entriesFor (length cmds)) after ≡ drop (entriesFor (length cmds)) before
   pub size : length after ≡ length before
 
--- refusal 4 for too few numbers; then 5 for a stream of more than 4,294,967,295 bytes, even where each offset would fit; else as many entries as a
+-- refusal 4 for too few numbers; then 5 for a stream of more than 4,294,967,295 bytes, wherever its commands end; else as many entries as a
 -- sixteenth of the commands, rounded up, whether the walk ends or stops behind them. A refusal leaves the numbers as they were
 pub record MakingTells (cmds : List Placed) (bytes : ℕ) (before : List ℕ) (a : Answer ℕ) (after : List ℕ) : Type 0 where
   pub short : length before < entriesFor (length cmds) → a ≡ refused 4
@@ -57,10 +63,10 @@ pub record MakingTells (cmds : List Placed) (bytes : ℕ) (before : List ℕ) (a
 
 -- ---- asking
 
--- with the entries that were made of that stream, exactly as many as were reported: each command of the walk by its number. Behind the last it is 19 as
--- long as an entry covers n, so below the next multiple of 16, and 4 from that on
+-- with the stream's own entries, all of them and nothing behind: each command of the walk by its number. Behind the last it is 19 while an entry covers
+-- n, which is so below sixteen times their number, and 4 from there on
 pub record OwnTells (cmds : List Placed) (n : ℕ) (a : Answer Spot) : Type 0 where
-  pub nth : (p : Placed) → Nth cmds n p → a ≡ given (spotOf p)
+  pub nth : n < length cmds → Nth cmds n (λ (p : Placed). a ≡ given (spotOf p))
   pub near : length cmds ≤ n → n < 16 * entriesFor (length cmds) → a ≡ refused 19
   pub far : 16 * entriesFor (length cmds) ≤ n → a ≡ refused 4
 
@@ -91,14 +97,14 @@ module _ (L : Rule) (s entries : List ℕ) (n : ℕ) where
   pub record AnyTells (a : Answer Spot) : Type 0 where
     pub none : length entries ≤ n / 16 → a ≡ refused 4
     pub past : n / 16 < length entries → length s < entry → a ≡ refused 5
-    pub nth : n / 16 < length entries → entry ≤ length s → (p : Placed) → Nth there (n % 16) p → a ≡ given (spotOf p)
+    pub nth : n / 16 < length entries → entry ≤ length s → n % 16 < length there → Nth there (n % 16) (λ (p : Placed). a ≡ given (spotOf p))
     pub ends : n / 16 < length entries → entry ≤ length s → length there ≤ n % 16 → a ≡ refused 19
 
--- at the offset that is told, `record_at` gives the record: its step is that command, with this CID and this length (and what the record says then: W7)
-abbrev pub RecordIs : Rules → RefT (List ℕ) → Spot → Type 0
-RecordIs rules stream x =
-    (frame : ℕ) (r : Handed) → Gives record-at.Post (rules, (frame, (stream, (x .at, tt)))) r
-    → (next : ℕ) × (toldStep (r .step) ≡ given (command (heading (x .cid) (x .len)) next))
+-- what `record_at` gives in a frame at the offset that is told: its step is that command, of this CID and this length, and its record says so, with that
+-- frame, that offset and the payload that `payload_at` shows there (W7)
+pub record RecordIs (rules : Rules) (stream : RefT (List ℕ)) (x : Spot) (frame : ℕ) (r : Handed) : Type 0 where
+  pub its-step : toldStep (r .step) ≡ given (command (heading (x .cid) (x .len)) (x .at + (1 + x .len)))
+  pub its-record : (p : RefT (List ℕ)) → Gives payload-at.Post (rules, (stream, (x .at, tt))) p → Says frame (x .at) (heading (x .cid) (x .len)) (now p) (r .«record»)
 
 -- ---- examples
 
@@ -135,15 +141,15 @@ pub record SeventeenCommands : Type 0 where
   pub others-unread : JumpsAs Up seventeen (99 ∷ 16 ∷ 99 ∷ []) 16 (toldSpot 16 0x02 0)
 
 -- sixteen LinkCheckReq, and a byte that is no CID
-abbrev pub stopped : List ℕ
-stopped = alike 0x02 16 (0x80 ∷ [])
+abbrev pub sixteenAndStop : List ℕ
+sixteenAndStop = alike 0x02 16 (0x80 ∷ [])
 
 pub record StopAfterSixteen : Type 0 where
-  pub one-entry : MakesAs Up stopped (7 ∷ 7 ∷ []) (given 1) (0 ∷ 7 ∷ [])
-  pub last : JumpsAs Up stopped (0 ∷ []) 15 (toldSpot 15 0x02 0)
-  pub not-covered : JumpsAs Up stopped (0 ∷ []) 16 (refused 4)
+  pub one-entry : MakesAs Up sixteenAndStop (7 ∷ 7 ∷ []) (given 1) (0 ∷ 7 ∷ [])
+  pub last : JumpsAs Up sixteenAndStop (0 ∷ []) 15 (toldSpot 15 0x02 0)
+  pub not-covered : JumpsAs Up sixteenAndStop (0 ∷ []) 16 (refused 4)
   -- by an entry at the stop
-  pub at-stop : JumpsAs Up stopped (0 ∷ 16 ∷ []) 16 (refused 19)
+  pub at-stop : JumpsAs Up sixteenAndStop (0 ∷ 16 ∷ []) 16 (refused 19)
 
 -- fifteen DevStatusReq, LinkADRReq `02 0A 03 06` at 15, and DevStatusReq at 20. From 16 on, inside the payload, stand LinkCheckAns `0A 03`, DevStatusReq at
 -- 19, and DevStatusReq at 20
@@ -177,7 +183,8 @@ pub record JumpsTell : Type 0 where
       → OwnTells (walkOf (lengthOf rules) (now stream) .cmds) n (toldJump r)
   pub any : (rules : Rules) (stream entries : RefT (List ℕ)) (n : ℕ) (r : JumpAnswer) → Asks rules stream entries n r
       → AnyTells (lengthOf rules) (now stream) (now entries) n (toldJump r)
-  pub its-record : (rules : Rules) (stream entries : RefT (List ℕ)) (n : ℕ) (r : JumpAnswer) (x : Spot) → Asks rules stream entries n r → toldJump r ≡ given x → RecordIs rules stream x
+  pub its-record : (rules : Rules) (stream entries : RefT (List ℕ)) (n : ℕ) (r : JumpAnswer) (x : Spot) → Asks rules stream entries n r → toldJump r ≡ given x
+      → (frame : ℕ) (q : Handed) → Gives record-at.Post (rules, (frame, (stream, (x .at, tt)))) q → RecordIs rules stream x frame q
   pub seventeen-commands : SeventeenCommands
   pub stop-after-sixteen : StopAfterSixteen
   pub of-another : EntriesOfAnother

@@ -1,5 +1,5 @@
 -- Each byte has one owner (RULES: D3a to D3c), said of what the public entries hand out.
-use Prim.Native.Nat.{ℕ, _+_, _≤_}
+use Prim.Native.Nat.{ℕ, _+_, _≤_, _<_}
 use mathlib.Core.List.{List, [], _∷_, _++_}
 use mathlib.Core.Path.{_≡_}
 use lib.ListN.{length, take, drop}
@@ -11,9 +11,9 @@ use Rattle.table.specs.declared.rules.Rules.{Rules}
 use Rattle.payloads.specs.Commands.{sentUp, sentDown}
 use Rattle.walk.specs.Ownership.{offsetOf, Ends}
 use Rattle.walk.specs.Part.{shown, partOf, emptyFront}
-use Rattle.walk.specs.Step.{Found, command, Heading, firstOf, foundAt, stepAt, tallyFrom}
+use Rattle.walk.specs.Step.{Found, command, Heading, firstOf, foundAt, inNumbers, stepAt, tallyFrom}
 use Rattle.walk.specs.Told.{toldStep, toldUplinkStep, toldDownlinkStep, toldWalk}
-use Rattle.walk.specs.Walk.{Rule, Cmd, Ending, placeOf, WellFormed, encode, size, walkFrom, walkOf}
+use Rattle.walk.specs.Walk.{Rule, Cmd, Ending, placeOf, Walk, WellFormed, encode, size, walkFrom, walkOf}
 use Rattle.walk.specs.declared.command.UplinkStep.{UplinkStep}
 use Rattle.walk.specs.declared.command.DownlinkStep.{DownlinkStep}
 use Rattle.walk.specs.declared.step.Step.{Step}
@@ -92,6 +92,17 @@ module _ (rules : Rules) (stream : RefT (List ℕ)) where
         → (shown p ≡ partOf stream (at + 1) (h .len)) × (next ≡ at + (1 + h .len)) × (next ≤ length s)
     pub none : NoCommand (withPayload (toldStep r) []) → shown p ≡ emptyFront stream
 
+  -- where n steps from an offset of the stream lead (W8): the walk from there is that from the offset, n commands dropped, and whatever `step_at` answers
+  -- there is the first of those left, or else the ending
+  module _ (from n at : ℕ) where
+    abbrev w : Walk
+    w = walkFrom L from (drop from s)
+
+    pub record LedTo : Type 0 where
+      pub rest : walkFrom L at (drop at s) ≡ record { cmds = drop n (w .cmds); ending = w .ending }
+      pub stands : at ≡ offsetOf (drop n (w .cmds)) (w .ending)
+      pub finds : (r : Step) → Gives step-at.Post (rules, (stream, (at, tt))) r → toldStep r ≡ inNumbers (given (firstOf (drop n (w .cmds)) (w .ending)))
+
   pub record OneOwner : Type 2 where
     pub by-steps : OneOwnerBy (steps rules stream)
     pub by-iterator : OneOwnerBy (iterator rules stream)
@@ -107,9 +118,9 @@ module _ (rules : Rules) (stream : RefT (List ℕ)) where
     -- at every offset, on the walk's way or not, a step finds what the walk from there would begin with; past the stream it is refused with 5 (R5)
     pub step-defined : (at : ℕ) (r : Step) → Gives step-at.Post (rules, (stream, (at, tt))) r → toldStep r ≡ stepAt L s at
     pub walk-defined : (from : ℕ) (w : WalkEnd) → Gives walk-from.Post (rules, (stream, (from, tt))) w → toldWalk w ≡ tallyFrom L s from
-    -- so many steps from an offset of the stream lead to the first command of the walk from there that is left, or to its ending
-    pub steps-lead : (from n at : ℕ) → from ≤ length s → Gives after-steps.Post (rules, (stream, (from, (n, tt)))) at
-        → at ≡ offsetOf (drop n (walkFrom L from (drop from s) .cmds)) (walkFrom L from (drop from s) .ending)
+    pub steps-lead : (from n at : ℕ) → from ≤ length s → Gives after-steps.Post (rules, (stream, (from, (n, tt)))) at → LedTo from n at
+    -- past the stream no step leads on
+    pub steps-stay : (from n at : ℕ) → length s < from → Gives after-steps.Post (rules, (stream, (from, (n, tt)))) at → at ≡ from
     pub up-defined : rules ≡ sentUp → (at : ℕ) (r : UplinkStep) → Gives uplink-at.Post (stream, (at, tt)) r → toldUplinkStep r ≡ foundAt L s at
     pub down-defined : rules ≡ sentDown → (at : ℕ) (r : DownlinkStep) → Gives downlink-at.Post (stream, (at, tt)) r → toldDownlinkStep r ≡ foundAt L s at
 

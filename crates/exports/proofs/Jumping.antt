@@ -123,6 +123,12 @@ makings-apart (refused k) (refused j) t u e = ap refused (omega arith)
 
 pub jumps-tell-apart : JumpsTellApart
 jumps-tell-apart = record {
+  count = λ s o n e. subst Few e (few-made s o);
+  no-count = λ s o k e. let above : 1 ≤ k = subst Few e (few-made s o) in omega arith;
+  spot = λ s e n x q.
+      let t = subst (Told (farthest e n)) q (told-jumped s e n) in
+      (t .2, t .3, omega (arith, t .1));
+  no-spot = λ s e n k q. subst (Told (farthest e n)) q (told-jumped s e n);
   makings = λ s t o p e. makings-apart (made L s o .0) (made L t p .0) (few-made s o) (few-made t p) e;
   jumps = λ s t e f m n q.
       jumps-apart (farthest e m) (farthest f n) (jumped L s e m) (jumped L t f n) (told-jumped s e m) (told-jumped t f n) q;

@@ -32,22 +32,21 @@ module _ (L : Rule) (s : List ℕ) where
         ap (spotted at) f ∙ ap (spotAt L s) e ∙ sym (ap (λ (b : Bool). by b (spotAt L s (afterSteps L s entry steps)) 5) (le-leb entry (length s) h))
 
   module _ (entries : List ℕ) (n : ℕ) where
+    abbrev entry : ℕ
+    entry = getD entries (n / 16) 0
+
     abbrev from : Answer Spot
-    from = fromEntry L s (getD entries (n / 16) 0) (n % 16)
+    from = fromEntry L s entry (n % 16)
 
     pub none-covers : length entries ≤ n / 16 → refused 4 ≡ jumped L s entries n
     unfolding jumped
     none-covers h = sym (ap (λ (b : Bool). by b from 4) (le-ltb (n / 16) (length entries) h))
 
-    pub covered : {a : Answer Spot} → n / 16 < length entries → a ≡ fromEntry L s (getD entries (n / 16) 0) (n % 16) → a ≡ jumped L s entries n
+    pub covered : {a : Answer Spot} → n / 16 < length entries → a ≡ from → a ≡ jumped L s entries n
     unfolding jumped
     covered h e = e ∙ sym (ap (λ (b : Bool). by b from 4) (lt-ltb (n / 16) (length entries) h))
 
-  -- each of the three, by what is found
-  module _ (entries : List ℕ) (n : ℕ) where
-    abbrev entry : ℕ
-    entry = getD entries (n / 16) 0
-
+    -- each of the three, by what is found
     pub data Jumping : Answer Spot → Type 0 where
       uncovered : length entries ≤ n / 16 → Jumping (refused 4)
       past : n / 16 < length entries → length s < entry → Jumping (refused 5)
@@ -57,9 +56,9 @@ module _ (L : Rule) (s : List ℕ) where
     jumping = cases (decLt (n / 16) (length entries)) (decLe entry (length s))
       where
         cases : Dec (n / 16 < length entries) → Dec (entry ≤ length s) → Jumping (jumped L s entries n)
-        cases (no h) g = subst Jumping (none-covers entries n (omega arith)) (uncovered (omega arith))
-        cases (yes h) (no g) = subst Jumping (covered entries n h (entry-past entry (n % 16) (omega arith))) (past h (omega arith))
-        cases (yes h) (yes g) = subst Jumping (covered entries n h (entry-spots entry (n % 16) (afterSteps L s entry (n % 16)) g refl refl)) (there h g)
+        cases (no h) g = subst Jumping (none-covers (omega arith)) (uncovered (omega arith))
+        cases (yes h) (no g) = subst Jumping (covered h (entry-past entry (n % 16) (omega arith))) (past h (omega arith))
+        cases (yes h) (yes g) = subst Jumping (covered h (entry-spots entry (n % 16) (afterSteps L s entry (n % 16)) g refl refl)) (there h g)
 
   -- ---- and by walks
 

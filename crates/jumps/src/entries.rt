@@ -44,8 +44,7 @@ fn write_entries(rules: Rules, stream: &[u8], numbers: &mut [u32], total: usize)
     }
 }
 
-// Writes the offset of every sixteenth command, counted from 0, and answers how many they are; all behind them is left as it was. A refusal
-// writes nothing.
+// Writes where the commands 0, 16, 32 and so on are, and answers how many they are; all behind them is left as it was. A refusal writes nothing.
 pub fn make_entries(rules: Rules, stream: &[u8], numbers: &mut [u32]) -> EntriesAnswer
     ensures { λ r. ⌜ (toldEntries r, now (numbers .exit)) ≡ made (lengthOf rules) (now (stream .entry)) (now (numbers .entry)) ⌝ }
 {

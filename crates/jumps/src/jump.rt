@@ -9,7 +9,7 @@ ghost use Rattle.table.specs.Table.{lengthOf};
 ghost use Rattle.jumps.specs.Jump.{fromEntry, jumped};
 ghost use Rattle.jumps.specs.Told.{toldJump};
 
-// A command: its offset, its CID, and the bytes of its payload; or a refusal.
+// A command: its offset, its CID, and how many bytes its payload has; or a refusal.
 pub enum JumpAnswer {
     Command { at: usize, cid: u8, len: usize },
     Refused(Refusal),
@@ -33,8 +33,7 @@ fn from_entry(rules: Rules, stream: &[u8], entry: u32, steps: usize) -> JumpAnsw
     }
 }
 
-// The command of this number, counted from 0: from the entry that covers it, and of all entries that one alone, at most 15 steps are made before the
-// command is read.
+// The command of this number, counted from 0. One entry is read, the one that covers it, and n mod 16 steps lead from there to the command.
 pub fn jump_to(rules: Rules, stream: &[u8], entries: &[u32], n: usize) -> JumpAnswer
     ensures { λ r. ⌜ toldJump r ≡ jumped (lengthOf rules) (now (stream .entry)) (now (entries .entry)) n ⌝ }
 {

@@ -1,5 +1,4 @@
-// To jump to a command of a long stream (RULES: J): entries beside it, the offsets of every sixteenth command, and the steps from the one that covers
-// it.
+// To jump to a command of a long stream (RULES: J): entries, which are offsets of commands sixteen apart, and steps from the one that covers it.
 pub mod entries;
 pub mod jump;
 

@@ -1,4 +1,4 @@
--- The claim of specs/Stepping.antt, proved: steps are the walk's. Assumes nothing.
+-- The claims of specs/Stepping.antt, proved: steps are the walk's. Assumes nothing.
 use Prim.Native.Nat.{ℕ, zero, suc, _+_, _-_, _≤_}
 use mathlib.Core.List.{List, [], _∷_}
 use mathlib.Core.Path.{_≡_, refl, sym, ap, _∙_, subst}
@@ -9,10 +9,10 @@ use lib.ListN.{length, drop}
 use Rattle.table.specs.Answers.{Answer, given, refused}
 use Rattle.walk.specs.Ownership.{offsetOf, Steps, finds, hands}
 use Rattle.walk.specs.Step.{Found, ended, command, stopped, Heading, firstOf, foundAt, inNumbers, stepAt}
-use Rattle.walk.specs.Stepping.{movedTo, afterSteps, StepsReach}
+use Rattle.walk.specs.Stepping.{movedTo, afterSteps, StepsReach, StepsStay}
 use Rattle.walk.specs.Walk.{Rule, Cmd, Placed, Ending, end, stop, walkFrom}
 use Rattle.walk.proofs.Ownership.{step-and-walk-agree}
-use Rattle.walk.proofs.Steps.{found-command, step-on}
+use Rattle.walk.proofs.Steps.{found-past, found-command, step-on}
 
 abbrev behindFirst : List Placed → List Placed
 behindFirst [] = []
@@ -102,4 +102,13 @@ module _ (L : Rule) (s : List ℕ) where
       (moved-on (steps-after from n h))
 
   pub steps-reach : StepsReach L s
-  steps-reach from n h = record { stands = stands-there (steps-after from n h); finds = first-found (steps-after from n h) }
+  steps-reach from n h =
+      let there = steps-after from n h in
+      record {
+        rest = step-and-walk-agree L s (afterSteps L s from n) (steps-within from n h) .no-other _ _ there;
+        stands = stands-there there;
+        finds = first-found there;
+      }
+
+  pub steps-stay : StepsStay L s
+  steps-stay from n h = stuck from n (ap (λ (x : Answer (Found Cmd)). movedTo (inNumbers x) from) (found-past L s h))
