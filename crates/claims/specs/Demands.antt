@@ -32,7 +32,7 @@ pub record Demands : Type 2 where
   pub duty-cycle-tells : Lifted DutyCycleTells
   -- D2: the examples hold. (That the answers equal the Rust's, but for A6, is shown by runs, docs/ORACLE.md.)
   pub examples : ExamplesHold
-  -- D3a to D3c: each byte of each stream has one owner
+  -- D3a to D3c: each byte of each stream has one owner; and W8: where steps lead
   pub one-owner : (rules : Rules) (stream : RefT (List ℕ)) → OneOwner rules stream
   pub next-is-step : NextIsStep
   -- W7 and B5: where a command came from

@@ -64,7 +64,7 @@ pub record MakingTells (cmds : List Placed) (bytes : ℕ) (before : List ℕ) (a
 -- ---- asking
 
 -- with the stream's own entries, all of them and nothing behind: each command of the walk by its number. Behind the last it is 19 while an entry covers
--- n, which is so below sixteen times their number, and 4 from there on
+-- n, which is so below sixteen times the number of entries, and 4 from there on
 pub record OwnTells (cmds : List Placed) (n : ℕ) (a : Answer Spot) : Type 0 where
   pub nth : n < length cmds → Nth cmds n (λ (p : Placed). a ≡ given (spotOf p))
   pub near : length cmds ≤ n → n < 16 * entriesFor (length cmds) → a ≡ refused 19
@@ -92,8 +92,8 @@ module _ (L : Rule) (s entries : List ℕ) (n : ℕ) where
   there = walkFrom L entry (drop entry s) .cmds
 
   -- with any entries: 4 where none covers n; 5 where the one that does is past the stream; else it is the walk from there, of which command n mod 16 is
-  -- told, and 19 where it has no more than that. (How many steps are made, no outcome tells: `jumped`, which the contract cites, has n mod 16 of them
-  -- before the command is read, so 15 at most.)
+  -- told, and 19 where it has no more than n mod 16 commands. (How many steps are made, no outcome tells: `jumped`, which the contract cites, has n mod 16
+  -- of them before the command is read, so 15 at most.)
   pub record AnyTells (a : Answer Spot) : Type 0 where
     pub none : length entries ≤ n / 16 → a ≡ refused 4
     pub past : n / 16 < length entries → length s < entry → a ≡ refused 5

@@ -1,4 +1,4 @@
--- Each byte has one owner (RULES: D3a to D3c), said of what the public entries hand out.
+-- Each byte has one owner (RULES: D3a to D3c), and where steps lead (W8), said of what the public entries hand out.
 use Prim.Native.Nat.{ℕ, _+_, _≤_, _<_}
 use mathlib.Core.List.{List, [], _∷_, _++_}
 use mathlib.Core.Path.{_≡_}
@@ -92,8 +92,8 @@ module _ (rules : Rules) (stream : RefT (List ℕ)) where
         → (shown p ≡ partOf stream (at + 1) (h .len)) × (next ≡ at + (1 + h .len)) × (next ≤ length s)
     pub none : NoCommand (withPayload (toldStep r) []) → shown p ≡ emptyFront stream
 
-  -- where n steps from an offset of the stream lead (W8): the walk from there is that from the offset, n commands dropped, and whatever `step_at` answers
-  -- there is the first of those left, or else the ending
+  -- where n steps from an offset of the stream lead (W8): the walk from there is that from the offset, n commands dropped. There stands the first of those
+  -- left, or else the ending, and whatever `step_at` answers there is that command, or that ending
   module _ (from n at : ℕ) where
     abbrev w : Walk
     w = walkFrom L from (drop from s)

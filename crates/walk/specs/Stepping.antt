@@ -25,8 +25,8 @@ module _ (L : Rule) (s : List ℕ) (from : ℕ) where
   abbrev w : Walk
   w = walkFrom L from (drop from s)
 
-  -- the walk from where n steps lead is the walk from `from`, n of its commands dropped. So they lead to the first command that is left, and a step
-  -- there finds it; where none is left, they lead to that walk's ending, and find it
+  -- the walk from where n steps lead is the walk from `from`, n of its commands dropped. So they lead to the first command that is left, or else to that
+  -- walk's ending, and the step that is made there finds it
   pub record Reaches (n : ℕ) : Type 0 where
     pub rest : walkFrom L (afterSteps L s from n) (drop (afterSteps L s from n) s) ≡ record { cmds = drop n (w .cmds); ending = w .ending }
     pub stands : afterSteps L s from n ≡ offsetOf (drop n (w .cmds)) (w .ending)
