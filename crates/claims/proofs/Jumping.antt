@@ -33,7 +33,7 @@ use Rattle.claims.proofs.Origins.{record-says}
 not-both : {A : Type 0} {x : A} {k : ℕ} → refused k ≡ given x → ⊥
 not-both e = let no-way : _≡_ {A = ℕ} 0 1 = cc in omega arith
 
--- as many commands are there as the list has
+-- below the length of a list there is an n-th
 nth-of : (ps : List Placed) (n : ℕ) {So : Placed → Type 0} → n < length ps → ((p : Placed) (behind : List Placed) → drop n ps ≡ p ∷ behind → So p) → Nth ps n So
 nth-of ps n {So} h so = by (drop n ps) refl
   where
@@ -126,10 +126,11 @@ module _ (L : Rule) (s : List ℕ) where
   spotted-by at (given (stopped n o)) e = absurd (not-both e)
   spotted-by at (refused n) e = absurd (not-both e)
 
-  -- so a step finds it there
+  -- a step finds it at its offset
   abbrev FoundThere : Spot → Type 0
   FoundThere x = (next : ℕ) × (stepAt L s (x .at) ≡ given (command (heading (x .cid) (x .len)) next))
 
+  -- so it does of what a jump tells, and leads behind its payload
   told-by : (es : List ℕ) (n : ℕ) {x : Spot} → jumped L s es n ≡ given x → stepAt L s (x .at) ≡ given (command (heading (x .cid) (x .len)) (x .at + (1 + x .len)))
   told-by es n {x} e = behind (by (jumping L s es n) e)
     where
