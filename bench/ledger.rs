@@ -406,9 +406,11 @@ fn said(setting: Setting, request: &Request) -> u32 {
         Setting::Power => u32::from(payload[0] & 0x0F),
         Setting::Mask => u32::from(u16::from_le_bytes([payload[1], payload[2]])),
         Setting::Redundancy => u32::from(payload[3]),
-        Setting::DutyCycle | Setting::Delay => u32::from(payload[0] & 0x0F),
+        Setting::DutyCycle => u32::from(payload[0] & 0x0F),
         Setting::Rx1Offset => u32::from(payload[0] >> 4 & 0x07),
         Setting::Rx2Rate => u32::from(payload[0] & 0x0F),
+        // In seconds: code 0 is one.
+        Setting::Delay => u32::from(payload[0] & 0x0F).max(1),
         Setting::DownlinkDwell => u32::from(payload[0] >> 5 & 1),
         Setting::UplinkDwell => u32::from(payload[0] >> 4 & 1),
         Setting::PowerLimit => u32::from(POWER_LIMITS[(payload[0] & 0x0F) as usize]),

@@ -76,7 +76,8 @@ alone! {
     reading,
 
     /// Every field of every command once, added up modulo 2^32: a mask by its banks, a duty cycle by its number and by its fraction's bits. The
-    /// seconds are the standard's and the port's: what the original reads, with its bytes in the other order.
+    /// seconds and the delay are the standard's and the port's: what the original reads, the seconds with their bytes in the other order, and of the
+    /// delay 1 in the place of 0.
     #[inline(never)]
     pub fn fields(stream: &[u8], _: usize) -> u64 {
         let mut sum = 0u32;
@@ -108,7 +109,7 @@ alone! {
                 let range = p.data_rate_range();
                 p.channel_index() as u32 + p.frequency().value() + range.max_data_rate() as u32 + range.min_data_rate() as u32
             }
-            DownlinkMacCommand::RXTimingSetupReq(p) => p.delay() as u32,
+            DownlinkMacCommand::RXTimingSetupReq(p) => p.delay().max(1) as u32,
             DownlinkMacCommand::TXParamSetupReq(p) => {
                 p.downlink_dwell_time() as u32 + p.uplink_dwell_time() as u32 + p.max_eirp() as u32
             }

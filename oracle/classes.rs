@@ -30,6 +30,7 @@ pub const OVERSTATED_RECORD: u8 = 15;
 pub const TYPED_RECORD: u8 = 16;
 pub const FLAG_DOWN: u8 = 17;
 pub const HIGH_FIRST: u8 = 18;
+pub const ZERO_DELAY: u8 = 19;
 
 /// The classes of functions that the port leaves behind.
 pub const LEFT_BEHIND: [u8; 4] = [RAW_PAYLOAD, RAW_FREQUENCY, RAW_MASK, OTHER_STATUSES];
@@ -142,6 +143,12 @@ pub const ALL: &[Class] = &[
         what: "the seconds of DeviceTimeAns, where their bytes don't read the same both ways. The Rust takes the high byte first; the low byte is first",
         entry: entries::PAYLOAD + 18,
         smallest: &[0, 0, 0, 1, 0],
+    },
+    Class {
+        number: ZERO_DELAY,
+        what: "the delay of RXTimingSetupReq, where the low nibble is 0. The Rust says 0; it is 1 second",
+        entry: entries::PAYLOAD + 12,
+        smallest: &[0],
     },
 ];
 

@@ -1,4 +1,4 @@
-//! The examples P1 to P15 of docs/RULES.md, as cases.
+//! The examples P1 to P15 and P19 of docs/RULES.md, as cases.
 
 use crate::batch::Batch;
 use crate::build::run;
@@ -73,5 +73,13 @@ pub fn all(batch: &mut Batch) {
     batch.comment("P15");
     for byte in [0x50, 0x55, 0x05] {
         batch.ask(entries::DATA_RATE_RANGE, &[byte]);
+    }
+
+    batch.comment("P19");
+    for byte in [0x00, 0x01, 0x0F, 0xF0] {
+        batch.ask(payload("RXTimingSetupReq"), &[byte]);
+    }
+    for code in [0, 1, 15, 16] {
+        batch.ask(creator("RXTimingSetupReq"), &script(NEW, &[Call::byte(1, code)]));
     }
 }

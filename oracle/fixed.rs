@@ -1,4 +1,4 @@
-//! The list that the repository keeps: the examples P1 to P15 whole, the smallest input of each class, the longest lists, a sample of
+//! The list that the repository keeps: the examples P1 to P15 and P19 whole, the smallest input of each class, the longest lists, a sample of
 //! the exhaustive batch with every entry and every class in it, a short batch by chance, and long streams down. It is the same on every machine.
 
 use crate::batch::Batch;

@@ -22,3 +22,12 @@ pub fn seconds(bytes: [u8; 4], said: u32) -> Result<u32, String> {
         Err("seconds that are not their bytes, high byte first".to_string())
     }
 }
+
+/// The delay of RXTimingSetupReq is in seconds, of which code 0 means one (Y7). The original says the code, which is the low nibble.
+pub fn delay(byte: u8, said: u8) -> Result<u8, String> {
+    if said == byte & 0x0F {
+        Ok(if said == 0 { 1 } else { said })
+    } else {
+        Err("a delay that is not the low nibble".to_string())
+    }
+}

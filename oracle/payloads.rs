@@ -18,20 +18,26 @@ fn heading(cid: u8, uplink: bool, len: usize) -> Result<(Command, u8), String> {
     Ok((command, u8::from(mended::uplink(command, uplink)?)))
 }
 
-/// The original's answer beside the port's, which has another flag for DevStatusAns and other seconds for DeviceTimeAns.
+/// The original's answer beside the port's, which has another flag for DevStatusAns, other seconds for DeviceTimeAns, and another delay for
+/// RXTimingSetupReq.
 fn judged(said: Vec<u8>) -> Judged {
     let (command, flag) = heading(said[0], said[1] != 0, usize::from(said[2]))?;
     let mut answer = said.clone();
     answer[1] = flag;
-    if table::name(command) != "DeviceTimeAns" {
-        return Case::beside(answer, said, classes::FLAG_DOWN);
-    }
-    // Behind a verdict that accepts stand the five bytes, and the seconds in four.
-    if let [_, _, _, 0, a, b, c, d, _, seconds @ ..] = &mut answer[..] {
-        let read = u32::from_be_bytes([seconds[0], seconds[1], seconds[2], seconds[3]]);
-        seconds[..4].copy_from_slice(&four(mended::seconds([*a, *b, *c, *d], read)? as usize));
-    }
-    Case::beside(answer, said, classes::HIGH_FIRST)
+    // Behind a verdict that accepts stand the payload's bytes, and then what the readers say.
+    let class = match (table::name(command), &mut answer[..]) {
+        ("DeviceTimeAns", [_, _, _, 0, a, b, c, d, _, seconds @ ..]) => {
+            let read = u32::from_be_bytes([seconds[0], seconds[1], seconds[2], seconds[3]]);
+            seconds[..4].copy_from_slice(&four(mended::seconds([*a, *b, *c, *d], read)? as usize));
+            classes::HIGH_FIRST
+        }
+        ("RXTimingSetupReq", [_, _, _, 0, byte, delay]) => {
+            *delay = mended::delay(*byte, *delay)?;
+            classes::ZERO_DELAY
+        }
+        _ => classes::FLAG_DOWN,
+    };
+    Case::beside(answer, said, class)
 }
 
 /// A payload type with bytes: `new`, and `new_from_raw` on another length.

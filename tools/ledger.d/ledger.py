@@ -119,7 +119,8 @@ def writes(name, payload):
             "RX2 frequency": low_first(payload[1:4]) * 100,
         }
     if name == "RXTimingSetupReq":
-        return {"delay": payload[0] & 0x0F}
+        # In seconds; a code of 0 is one of them.
+        return {"delay": payload[0] & 0x0F or 1}
     if name == "TXParamSetupReq":
         return {
             "downlink dwell": payload[0] >> 5 & 1,

@@ -3,6 +3,7 @@ use Rattle.claims.specs.Demands.{Demands}
 use Rattle.claims.proofs.Building.{builds}
 use Rattle.claims.proofs.ByHand.{by-hand}
 use Rattle.claims.proofs.Choosing.{chooser}
+use Rattle.claims.proofs.Delay.{delay-tells}
 use Rattle.claims.proofs.DutyCycle.{duty-cycle-tells}
 use Rattle.claims.proofs.Examples.{examples-hold}
 use Rattle.claims.proofs.Flags.{flags-tell}
@@ -22,6 +23,7 @@ demands = record {
   flags-tell = record { so = flags-tell };
   time-tells = record { so = time-tells };
   duty-cycle-tells = record { so = duty-cycle-tells };
+  delay-tells = record { so = delay-tells };
   examples = examples-hold;
   one-owner = one-owner;
   next-is-step = next-is-step;

@@ -42,7 +42,7 @@ module _ (rules : Rules) (frame : ℕ) (stream : RefT (List ℕ)) where
   sizes : (a : Answer ℕ) → Sizes rules frame stream a → a ≡ lengthWithin largest all
   sizes a l = sym (l .told) ∙ l .admitted .1 .1
 
-  written-all : TextIs rules frame stream all
+  pub written-all : TextIs rules frame stream all
   unfolding lengthWithin
   written-all = record {
     room = λ out a after l h. let e = both (lists out a after l ∙ into-room all (now out) h) in (e .0, e .1 ∙ over-front (now out) all);

@@ -1,6 +1,6 @@
--- The demands (RULES: D1 to D3), each as one statement, and what holds of masks, command types, the seconds, the duty cycle, where a command came
--- from, the chooser, jumps, the listing and the ledger. They speak of functions: each holds of every outcome that the contracts of the public functions
--- admit, so a body that is changed together with its contract can't pass unless the sentence still holds of it.
+-- The demands (RULES: D1 to D3), each as one statement, and what holds of masks, command types, the seconds, the duty cycle, the delay, where a command
+-- came from, the chooser, jumps, the listing and the ledger. They speak of functions: each holds of every outcome that the contracts of the public
+-- functions admit, so a body that is changed together with its contract can't pass unless the sentence still holds of it.
 use Prim.Native.Nat.{ℕ}
 use mathlib.Core.List.{List}
 use denote.Ref.{RefT}
@@ -8,6 +8,7 @@ use Rattle.table.specs.declared.rules.Rules.{Rules}
 use Rattle.claims.specs.Building.{Builds}
 use Rattle.claims.specs.ByHand.{ByHand}
 use Rattle.claims.specs.Choosing.{Chooser}
+use Rattle.claims.specs.Delay.{DelayTells}
 use Rattle.claims.specs.DutyCycle.{DutyCycleTells}
 use Rattle.claims.specs.Examples.{ExamplesHold, Lifted}
 use Rattle.claims.specs.Flags.{FlagsTell}
@@ -30,6 +31,8 @@ pub record Demands : Type 2 where
   pub time-tells : Lifted TimeTells
   -- Y3, Y5 and P18: the part of the time in which a device may send, by its value and by its bits
   pub duty-cycle-tells : Lifted DutyCycleTells
+  -- Y7, K10 and P19: the delay in seconds, as it is read, set and read again, and held in the ledger
+  pub delay-tells : Lifted DelayTells
   -- D2: the examples hold. (That the answers equal the Rust's, but for A6, is shown by runs, docs/ORACLE.md.)
   pub examples : ExamplesHold
   -- D3a to D3c: each byte of each stream has one owner; and W8: where steps lead

@@ -65,7 +65,7 @@ use Rattle.ledger.proofs.Ledger.max_duty_cycle.Reads as max-duty-cycle
 use Rattle.ledger.proofs.Ledger.rx1_dr_offset.Reads as rx1-dr-offset
 use Rattle.ledger.proofs.Ledger.rx2_data_rate.Reads as rx2-data-rate
 use Rattle.ledger.proofs.Ledger.rx2_frequency.Reads as rx2-frequency
-use Rattle.ledger.proofs.Ledger.delay.Reads as delay-code
+use Rattle.ledger.proofs.Ledger.delay.Reads as delay-seconds
 use Rattle.ledger.proofs.Ledger.downlink_dwell_time.Reads as downlink-dwell-time
 use Rattle.ledger.proofs.Ledger.uplink_dwell_time.Reads as uplink-dwell-time
 use Rattle.ledger.proofs.Ledger.max_eirp.Reads as max-eirp
@@ -99,7 +99,7 @@ Asks maxDutyCycle l h = Gives max-duty-cycle.Post (l, tt) h
 Asks rx1DrOffset l h = Gives rx1-dr-offset.Post (l, tt) h
 Asks rx2DataRate l h = Gives rx2-data-rate.Post (l, tt) h
 Asks rx2Frequency l h = Gives rx2-frequency.Post (l, tt) h
-Asks delay l h = Gives delay-code.Post (l, tt) h
+Asks delay l h = Gives delay-seconds.Post (l, tt) h
 Asks downlinkDwellTime l h = Gives downlink-dwell-time.Post (l, tt) h
 Asks uplinkDwellTime l h = Gives uplink-dwell-time.Post (l, tt) h
 Asks maxEirp l h = Gives max-eirp.Post (l, tt) h
@@ -308,6 +308,13 @@ examples =
     whole "7\tU\t04\n70\tD\t0401\n" ((maxDutyCycle, none) ∷ []) (stray (place 1 7 0) ∷ []) ∷
     -- unchanged: of the duty cycle's byte the low half counts
     whole "70\tD\t04000410\n7\tU\t0404\n" ((maxDutyCycle, set 1 70 2 0 true) ∷ []) [] ∷
+    -- a delay is shown in seconds, and by these it is marked: of the codes 1, 0 and 2 the first is 1 second, the second changes nothing, the third does
+    whole "70\tD\t0801\n7\tU\t08\n" ((delay, set 1 70 0 1 false) ∷ []) [] ∷
+    whole "70\tD\t08010800\n7\tU\t0808\n" ((delay, set 1 70 2 1 true) ∷ []) [] ∷
+    whole "70\tD\t080108000802\n7\tU\t080808\n" ((delay, set 1 70 4 2 false) ∷ []) [] ∷
+    -- nor does 1 after 0 change anything, or a high half after none
+    whole "70\tD\t08000801\n7\tU\t0808\n" ((delay, set 1 70 2 1 true) ∷ []) [] ∷
+    whole "70\tD\t080108F0\n7\tU\t0808\n" ((delay, set 1 70 2 1 true) ∷ []) [] ∷
     -- each setting for itself, and of the redundancy byte every bit
     whole "70\tD\t03510700010351070081\n7\tU\t03070307\n" ((dataRate, set 1 70 5 5 true) ∷ (redundancy, set 1 70 5 129 false) ∷ []) [] ∷
     -- by the parent before, not the request before, which was answered no

@@ -1,5 +1,5 @@
--- What is read after the setters of specs/Setters.antt, and what the dwell setters leave. Assumes nothing.
-use Prim.Native.Nat.{ℕ, _+_, _*_, _/_, _%_, _^_, _<_, _≤_}
+-- What is read after the setters of specs/Setters.antt and after `set_delay`, and what the dwell setters leave. Assumes nothing.
+use Prim.Native.Nat.{ℕ, _+_, _*_, _/_, _%_, _^_, _<_, _≤_, max}
 use mathlib.Core.Path.{_≡_, refl, sym, ap, _∙_, subst}
 use mathlib.Core.Bool.{Bool, true, false}
 use mathlib.Core.List.{List}
@@ -19,15 +19,16 @@ use Rattle.fields.specs.Places.{
   bytesAt,
   DevStatusAns·margin,
   DevStatusAns·whole,
+  RXTimingSetupReq·delay,
   TXParamSetupReq·bitZero,
   DeviceTimeAns·seconds,
   DeviceTimeAns·fraction,
 }
-use Rattle.payloads.specs.Meanings.{signed, marginOf, secondsOf, nanoSecondsOf}
-use Rattle.creators.specs.Image.{putAt, onlyIf}
+use Rattle.payloads.specs.Meanings.{signed, marginOf, delayOf, secondsOf, nanoSecondsOf}
+use Rattle.creators.specs.Image.{putAt, onlyIf, checkedAt}
 use Rattle.creators.specs.Setters.{dwellAt, isMargin, sixBits, marginAt, lowBytes, secondsAt, nanoSecondsAt}
 use Rattle.creators.proofs.Margin.{six-bits-fit, signed-six}
-use Rattle.creators.proofs.ReadBack.{payloadOf, Outside, length-put, reads, says, leaves, accepted-writes, reads-within, length-run, reads-run}
+use Rattle.creators.proofs.ReadBack.{payloadOf, Outside, length-put, reads, says, leaves, accepted-writes, checked-reads, reads-within, length-run, reads-run}
 
 -- ---- TXParamSetupReq
 
@@ -66,6 +67,13 @@ margin-reads image m here byte e =
     ap (λ (i : List ℕ). marginOf (payloadOf i)) (w .1)
     ∙ ap (signed 6) (reads-within DevStatusAns·margin image (sixBits m) here byte ∙ f)
     ∙ signed-six m (w .0)
+
+-- ---- RXTimingSetupReq
+
+-- of an accepted code as many seconds are read as it says, and of code 0 one (RULES: K10)
+pub delay-reads : (image : List ℕ) (code : ℕ) → 1 < length image → checkedAt RXTimingSetupReq·delay 10 image code .0 ≡ accepted
+    → delayOf (payloadOf (checkedAt RXTimingSetupReq·delay 10 image code .1)) ≡ max 1 code
+delay-reads image code here e = ap (max 1) (checked-reads RXTimingSetupReq·delay 10 image code here e)
 
 -- ---- DeviceTimeAns
 

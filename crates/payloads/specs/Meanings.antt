@@ -1,6 +1,6 @@
 -- What the fields mean that are more than a number or a flag (RULES: Y5 to Y10). Where they stand is in Rattle.fields.specs.Places; what an
 -- answer's flags mean together is in Acceptance.antt, and what a frequency, a mask and the settings mean is in crate fields.
-use Prim.Native.Nat.{ℕ, _-_, _*_, _^_}
+use Prim.Native.Nat.{ℕ, _-_, _*_, _^_, max}
 use mathlib.Core.Bool.{false, cond}
 use mathlib.Core.List.{List, [], _∷_}
 use lib.Dec.{ltb}
@@ -37,10 +37,11 @@ signed bits n = cond (ltb n (2 ^ (bits - 1))) (pos n) (pos n -ℤ pos (2 ^ bits)
 abbrev pub marginOf : List ℕ → ℤ
 marginOf payload = signed (DevStatusAns·margin .width) (numberAt DevStatusAns·margin payload)
 
--- ---- RXTimingSetupReq: the number as it stands (RULES: Y7). By the standard, 5.7, a 0 is 1 second
+-- ---- RXTimingSetupReq (the standard, 5.7)
 
+-- as many seconds as the number says, but 1 at least: a 0 is 1 second (RULES: Y7)
 abbrev pub delayOf : List ℕ → ℕ
-delayOf payload = numberAt RXTimingSetupReq·delay payload
+delayOf payload = max 1 (numberAt RXTimingSetupReq·delay payload)
 
 -- ---- TXParamSetupReq (the standard, 5.8)
 

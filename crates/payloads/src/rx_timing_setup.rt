@@ -1,10 +1,18 @@
 use table::Refusal;
+ghost use Prim.Native.Nat.{max};
 ghost use mathlib.Core.Path.{_≡_};
 ghost use Rattle.table.specs.Table.{named, flagOf};
 ghost use Rattle.fields.specs.Lists.{exactly};
 ghost use Rattle.payloads.specs.Bytes.{RXTimingSetupAns·bytes, RXTimingSetupReq·bytes};
 ghost use Rattle.payloads.specs.Meanings.{delayOf};
 ghost use Rattle.payloads.specs.Told.{toldRXTimingSetupReq};
+
+// The seconds that a delay's code stands for.
+fn in_seconds(code: u8) -> u8
+    ensures { λ r. ⌜ r ≡ max 1 code ⌝ }
+{
+    if code == 0 { 1 } else { code }
+}
 
 // Sets when the first receive window opens.
 pub struct RXTimingSetupReqPayload(pub u8);
@@ -49,11 +57,11 @@ impl RXTimingSetupReqPayload {
         [self.0]
     }
 
-    // The delay before the first receive window.
+    // The seconds until the first receive window opens, 1 to 15.
     pub fn delay(self) -> u8
         ensures { λ r. ⌜ r ≡ delayOf (RXTimingSetupReq·bytes self) ⌝ }
     {
-        self.0 % 16
+        in_seconds(self.0 % 16)
     }
 }
 
