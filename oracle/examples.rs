@@ -75,7 +75,7 @@ pub fn all(batch: &mut Batch) {
         batch.ask(entries::DATA_RATE_RANGE, &[byte]);
     }
 
-    batch.comment("P19");
+    batch.comment("P19, and K10");
     for byte in [0x00, 0x01, 0x0F, 0xF0] {
         batch.ask(payload("RXTimingSetupReq"), &[byte]);
     }

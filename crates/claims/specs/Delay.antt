@@ -94,7 +94,8 @@ pub record DelayTells : Type 0 where
   pub written : (c : RXTimingSetupReqCreator) (code : ℕ) (d : RXTimingSetupReqCreatorAnswer) → code ≤ 15 → Gives set-delay.Post (c, (code, tt)) d
       → (toldVerdict (d .verdict) ≡ accepted) × (d .creator .«data» ≡ set (c .«data») 1 (getD (c .«data») 1 0 / 16 * 16 + code))
   -- and what is built then, where the image has its two bytes, is less the CID a payload that is read as the code's seconds
-  pub set-is-read : (c : RXTimingSetupReqCreator) (code : ℕ) (d : RXTimingSetupReqCreatorAnswer) (image : List ℕ) (payload : RefT (List ℕ)) (a : RXTimingSetupReqAnswer)
+  pub set-is-read : (c : RXTimingSetupReqCreator) (code : ℕ) (d : RXTimingSetupReqCreatorAnswer) (image : List ℕ)
+      (payload : RefT (List ℕ)) (a : RXTimingSetupReqAnswer)
       → length (c .«data») ≡ imageLength (named "RXTimingSetupReq") → code ≤ 15
       → Gives set-delay.Post (c, (code, tt)) d → Gives build.Post (d .creator, tt) image
       → now payload ≡ drop 1 image → Gives payload-new.Post (payload, tt) a → ReadWithDelay (getD delays code 0) a

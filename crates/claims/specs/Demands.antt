@@ -31,7 +31,7 @@ pub record Demands : Type 2 where
   pub time-tells : Lifted TimeTells
   -- Y3, Y5 and P18: the part of the time in which a device may send, by its value and by its bits
   pub duty-cycle-tells : Lifted DutyCycleTells
-  -- Y7, K10 and P19: the delay in seconds, as it is read, set and read again, and held in the ledger
+  -- Y7, K10 and P19: the delay in seconds, as it is read, and set and read again; X9 and X11: as the ledger holds it; and its byte as it was sent
   pub delay-tells : Lifted DelayTells
   -- D2: the examples hold. (That the answers equal the Rust's, but for A6, is shown by runs, docs/ORACLE.md.)
   pub examples : ExamplesHold

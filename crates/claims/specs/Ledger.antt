@@ -312,7 +312,7 @@ examples =
     whole "70\tD\t0801\n7\tU\t08\n" ((delay, set 1 70 0 1 false) ∷ []) [] ∷
     whole "70\tD\t08010800\n7\tU\t0808\n" ((delay, set 1 70 2 1 true) ∷ []) [] ∷
     whole "70\tD\t080108000802\n7\tU\t080808\n" ((delay, set 1 70 4 2 false) ∷ []) [] ∷
-    -- nor does 1 after 0 change anything, or a high half after none
+    -- nor does 1 after 0 change anything; and of the byte the low half counts
     whole "70\tD\t08000801\n7\tU\t0808\n" ((delay, set 1 70 2 1 true) ∷ []) [] ∷
     whole "70\tD\t080108F0\n7\tU\t0808\n" ((delay, set 1 70 2 1 true) ∷ []) [] ∷
     -- each setting for itself, and of the redundancy byte every bit

@@ -21,7 +21,7 @@ pub enum Refusal {
     InvalidTxPower,
     // A margin below -32 or over 31.
     MarginOutOfRange,
-    // A delay over 15.
+    // A delay's code over 15.
     DelayOutOfRange,
     // A power limit over 15.
     MaxEirpOutOfRange,
