@@ -1,4 +1,4 @@
-//! The examples P1 to P15 and P19 of docs/RULES.md, as cases.
+//! The examples P1 to P15 and P19 of docs/RULES.md, with some of K10, as cases.
 
 use crate::batch::Batch;
 use crate::build::run;

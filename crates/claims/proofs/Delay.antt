@@ -7,7 +7,7 @@ use mathlib.Core.Path.{_≡_, refl, sym, ap, _∙_, subst}
 use native.Mathlib.Decide.{decLe}
 use native.Mathlib.Omega.{arith}
 use lib.ListN.{length, getD, set, drop, length-drop}
-use denote.Ref.{RefT, now}
+use denote.Ref.{now}
 use Rattle.bits.specs.Bits.{setField}
 use Rattle.bits.proofs.Each.{Each, each}
 use Rattle.table.specs.Answers.{given}
@@ -140,7 +140,7 @@ delay-tells = record {
   ledger-reads = λ body r g. sym (g .1 .1);
   held = λ lines lent l after h t asks. exact-delay (reverse (events 0 lines)) (toldHeld h) (t .parents delay h asks);
   sent = λ b bytes g. g .1 .1;
-  listed = λ b frame stream e.
+  in-listing = λ b frame stream e.
       subst (TextIs (record { direction = Down }) frame stream) (ap (listingOf (record { direction = Down }) frame) e ∙ one-command b frame)
       (written-all (record { direction = Down }) frame stream);
   code-zero = code-zero;

@@ -93,7 +93,7 @@ pub record DelayTells : Type 0 where
   -- any other number is refused: `refusals-keep`)
   pub written : (c : RXTimingSetupReqCreator) (code : ℕ) (d : RXTimingSetupReqCreatorAnswer) → code ≤ 15 → Gives set-delay.Post (c, (code, tt)) d
       → (toldVerdict (d .verdict) ≡ accepted) × (d .creator .«data» ≡ set (c .«data») 1 (getD (c .«data») 1 0 / 16 * 16 + code))
-  -- and what is built then, where the image has its two bytes, is less the CID a payload that is read as the code's seconds
+  -- of a creator whose image has its two bytes, what is built then, less the CID, is a payload that is read as the code's seconds
   pub set-is-read : (c : RXTimingSetupReqCreator) (code : ℕ) (d : RXTimingSetupReqCreatorAnswer) (image : List ℕ)
       (payload : RefT (List ℕ)) (a : RXTimingSetupReqAnswer)
       → length (c .«data») ≡ imageLength (named "RXTimingSetupReq") → code ≤ 15
@@ -104,9 +104,9 @@ pub record DelayTells : Type 0 where
   -- so a ledger that tells of some lines shows seconds, and marks by them
   pub held : (lines : List TraceLine) (lent : List ℕ) (l : Ledger) (after : List ℕ) (h : Held) → Tells lines lent l after → Asks delay l h
       → ExactDelay (reverse (events 0 lines)) (toldHeld h)
-  -- the byte as it was sent: of the payload, and in the listing
+  -- the byte as it was sent: by `bytes`, and in the listing of this one command
   pub sent : (b : ℕ) (bytes : List ℕ) → Gives payload-bytes.Post (record { 0 = b }, tt) bytes → bytes ≡ b ∷ []
-  pub listed : (b frame : ℕ) (stream : RefT (List ℕ)) → now stream ≡ 0x08 ∷ b ∷ []
+  pub in-listing : (b frame : ℕ) (stream : RefT (List ℕ)) → now stream ≡ 0x08 ∷ b ∷ []
       → TextIs (record { direction = Down }) frame stream (listingWith b frame)
   -- P19
   pub code-zero : HasDelay 0x00 1

@@ -28,7 +28,19 @@ use Rattle.payloads.specs.Meanings.{signed, marginOf, delayOf, secondsOf, nanoS
 use Rattle.creators.specs.Image.{putAt, onlyIf, checkedAt}
 use Rattle.creators.specs.Setters.{dwellAt, isMargin, sixBits, marginAt, lowBytes, secondsAt, nanoSecondsAt}
 use Rattle.creators.proofs.Margin.{six-bits-fit, signed-six}
-use Rattle.creators.proofs.ReadBack.{payloadOf, Outside, length-put, reads, says, leaves, accepted-writes, checked-reads, reads-within, length-run, reads-run}
+use Rattle.creators.proofs.ReadBack.{
+  payloadOf,
+  Outside,
+  length-put,
+  reads,
+  says,
+  leaves,
+  accepted-writes,
+  checked-reads,
+  reads-within,
+  length-run,
+  reads-run,
+}
 
 -- ---- TXParamSetupReq
 
