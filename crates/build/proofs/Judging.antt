@@ -5,7 +5,7 @@ use mathlib.Core.Bool.{Bool, true, false, cond}
 use mathlib.Core.Option.{Option, none, some}
 use native.Mathlib.Omega.{arith}
 use lib.Dec.{eqb}
-use borrow.Author.Tests.{eq-eqb, ne_eqb, eqb_true}
+use borrow.Author.Tests.{eq-eqb, ne_eqb, eqb-true}
 use Rattle.table.specs.Answers.{Answer, given, refused}
 use Rattle.table.specs.declared.rules.Rules.{Rules}
 use Rattle.table.specs.Table.{length_of}
@@ -37,7 +37,7 @@ module _ (L : Rule) (r : Rec) (n : ℕ) where
 
       by : (o : Option ℕ) → L r.cid ≡ o → measured o r.len ≡ given n → (L r.cid ≡ some r.len) × (n ≡ 1 + r.len)
       by none q e = let z : ◌≡◌ {A = ℕ} 0 1 = cc in absurd (omega arith)
-      by (some m) q e = let t = here m (eqb r.len m) (eqb_true r.len m) e in (q ∙ t.0, t.1)
+      by (some m) q e = let t = here m (eqb r.len m) (eqb-true r.len m) e in (q ∙ t.0, t.1)
 
   -- and so is every record whose length is that
   pub judged_known : L r.cid ≡ some r.len → judged L r ≡ given (1 + r.len)

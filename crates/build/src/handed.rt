@@ -10,7 +10,7 @@ use table::Rules;
 use walk::{Step, step_at};
 
 // What stands at an offset of a stream, and the record of it where it is a command. Else the record is that of no command.
-#[derive(Drop)]
+#[derive(Clone, Copy)]
 pub struct Handed {
     pub step: Step,
     pub record: Record,

@@ -10,7 +10,7 @@ use crate::record::{Judged, Record};
 use table::{Refusal, Rules};
 
 // What building answers: the bytes that the records take, or a refusal, with the record's place where one is at fault.
-#[derive(Drop)]
+#[derive(Clone, Copy)]
 pub enum BuildAnswer {
     Total(usize),
     RefusedAt { reason: Refusal, place: usize },

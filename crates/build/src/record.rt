@@ -12,7 +12,7 @@ use table::{Length, Refusal, Rules};
 
 // A command: its CID, up to five payload bytes, and how many of them count; and where it came from: a frame's number, and the offset of the
 // CID in that frame's stream. What is written of it is the command alone. The fields stand in an order that leaves few gaps in memory.
-#[derive(Drop)]
+#[derive(Clone, Copy)]
 pub struct Record {
     pub cid: u8,
     pub payload: [u8; 5],
@@ -22,7 +22,7 @@ pub struct Record {
 }
 
 // A record held against a book of rules: the bytes that its command takes, CID included, or why it is refused.
-#[derive(Drop)]
+#[derive(Clone, Copy)]
 pub enum Judged {
     Size(usize),
     Refused(Refusal),

@@ -7,7 +7,7 @@ use mathlib.Core.Path.{◌≡◌, refl, sym, ap, ◌∙◌}
 use native.Mathlib.Omega.{arith}
 use lib.Dec.{ltb, eqb}
 use lib.ListN.{length}
-use borrow.Author.Tests.{lt-ltb, le-ltb, ltb-true, eqb_true}
+use borrow.Author.Tests.{lt-ltb, le-ltb, ltb-true, eqb-true}
 use denote.Ref.{Bor}
 use Rattle.table.specs.Answers.{Consent, refused, accepted}
 use Rattle.table.specs.Told.{told_verdict}
@@ -42,7 +42,7 @@ module _ (fopts payload : Bor (List ℕ)) (port : Port) where
   elsewhere h = by (told_port port) refl (ltb 0 (length payload.now)) refl
     where
       zero : (n : ℕ) → told_port port ≡ some n → (z : Bool) → eqb n 0 ≡ z → (b : Bool) → ltb 0 (length payload.now) ≡ b → z && b ≡ false
-      zero n e true z true q = absurd (h (record { port_zero = e ∙ ap some (eqb_true n 0 z); some_payload = ltb-true 0 (length payload.now) q }))
+      zero n e true z true q = absurd (h (record { port_zero = e ∙ ap some (eqb-true n 0 z); some_payload = ltb-true 0 (length payload.now) q }))
       zero n e true z false q = refl
       zero n e false z b q = refl
 

@@ -8,7 +8,7 @@ use native.Mathlib.Omega.{arith}
 use lib.Dec.{eqb, lit≤}
 use lib.ListN.{length, get_or, take}
 use lib.Seq.{get_or-append-add, take-length}
-use borrow.Author.Tests.{eqb_true}
+use borrow.Author.Tests.{eqb-true}
 use Rattle.bits.specs.Bits.{Byte}
 use Rattle.bits.specs.Every.{Every}
 use Rattle.table.specs.Table.{Row, rows, side_of, length_in, length_of}
@@ -93,7 +93,7 @@ module _ (rules : Rules) where
     where
       by : (t : Bool) → eqb c r.cid ≡ t → cond t (some (side_of d r.bytes_down r.bytes_up)) (length_in rs d c) ≡ some n
           → (length_in rs d c ≡ some n → c < 256) → c < 256
-      by true q e ih = let h = w.0 in let same : c ≡ r.cid = eqb_true c r.cid q in omega arith
+      by true q e ih = let h = w.0 in let same : c ≡ r.cid = eqb-true c r.cid q in omega arith
       by false q e ih = ih e
 
   all_low : Low rows

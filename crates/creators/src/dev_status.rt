@@ -34,7 +34,7 @@ fn margin_in(image: &mut [u8], margin: i8) -> Verdict
     Verdict::Accepted
 }
 
-#[derive(Drop)]
+#[derive(Clone, Copy)]
 pub struct DevStatusReqCreator {}
 
 impl DevStatusReqCreator {
@@ -70,13 +70,13 @@ impl DevStatusReqCreator {
     }
 }
 
-#[derive(Drop)]
+#[derive(Clone, Copy)]
 pub struct DevStatusAnsCreator {
     pub(crate) data: [u8; 3],
 }
 
 // The creator, and whether the setter was accepted. A refused setter hands the creator back unchanged (RULES: F2).
-#[derive(Drop)]
+#[derive(Clone, Copy)]
 pub struct DevStatusAnsCreatorAnswer {
     pub verdict: Verdict,
     pub creator: DevStatusAnsCreator,

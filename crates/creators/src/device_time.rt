@@ -41,7 +41,7 @@ fn nano_seconds_in(image: &mut [u8], nano_seconds: u32) -> Verdict
     Verdict::Accepted
 }
 
-#[derive(Drop)]
+#[derive(Clone, Copy)]
 pub struct DeviceTimeReqCreator {}
 
 impl DeviceTimeReqCreator {
@@ -77,13 +77,13 @@ impl DeviceTimeReqCreator {
     }
 }
 
-#[derive(Drop)]
+#[derive(Clone, Copy)]
 pub struct DeviceTimeAnsCreator {
     pub(crate) data: [u8; 6],
 }
 
 // The creator, and whether the setter was accepted. A refused setter hands the creator back unchanged (RULES: F2).
-#[derive(Drop)]
+#[derive(Clone, Copy)]
 pub struct DeviceTimeAnsCreatorAnswer {
     pub verdict: Verdict,
     pub creator: DeviceTimeAnsCreator,

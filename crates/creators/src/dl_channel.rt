@@ -8,7 +8,7 @@ ghost use Rattle.creators.specs.Image.{new_of, image_length, default_of, put_at,
 use crate::engine::{flag, frequency_at, octet};
 use fields::Frequency;
 
-#[derive(Drop)]
+#[derive(Clone, Copy)]
 pub struct DlChannelReqCreator {
     pub(crate) data: [u8; 5],
 }
@@ -66,7 +66,7 @@ impl DlChannelReqCreator {
     }
 }
 
-#[derive(Drop)]
+#[derive(Clone, Copy)]
 pub struct DlChannelAnsCreator {
     pub(crate) data: [u8; 2],
 }

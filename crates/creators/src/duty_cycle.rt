@@ -5,7 +5,7 @@ ghost use Rattle.creators.specs.Image.{new_of, image_length, default_of, put_at}
 
 use crate::engine::octet;
 
-#[derive(Drop)]
+#[derive(Clone, Copy)]
 pub struct DutyCycleReqCreator {
     pub(crate) data: [u8; 2],
 }
@@ -53,7 +53,7 @@ impl DutyCycleReqCreator {
     }
 }
 
-#[derive(Drop)]
+#[derive(Clone, Copy)]
 pub struct DutyCycleAnsCreator {}
 
 impl DutyCycleAnsCreator {

@@ -25,7 +25,7 @@ use crate::rx_timing_setup::{RXTimingSetupAnsCreator, RXTimingSetupReqCreator};
 use crate::tx_param_setup::{TXParamSetupAnsCreator, TXParamSetupReqCreator};
 
 // An image as it is sent: the first len bytes. Those after them do not count.
-#[derive(Drop)]
+#[derive(Clone, Copy)]
 pub struct Image {
     pub len: usize,
     pub bytes: [u8; 6],
@@ -52,11 +52,11 @@ fn padded(image: &[u8]) -> [u8; 6]
 }
 
 // What the table has of a command: its CID, and the bytes of its payload.
-#[derive(Drop)]
+#[derive(Clone, Copy)]
 struct Entry(u8, u8);
 
 // The commands that are sent up.
-#[derive(Drop)]
+#[derive(Clone, Copy)]
 pub enum UplinkKind {
     LinkCheckReq,
     LinkADRAns,
@@ -89,7 +89,7 @@ impl UplinkKind {
     }
 }
 
-#[derive(Drop)]
+#[derive(Clone, Copy)]
 pub struct UplinkMacCommandCreator {
     kind: UplinkKind,
     image: [u8; 6],
@@ -209,7 +209,7 @@ impl UplinkMacCommandCreator {
 }
 
 // The commands that are sent down.
-#[derive(Drop)]
+#[derive(Clone, Copy)]
 pub enum DownlinkKind {
     LinkCheckAns,
     LinkADRReq,
@@ -242,7 +242,7 @@ impl DownlinkKind {
     }
 }
 
-#[derive(Drop)]
+#[derive(Clone, Copy)]
 pub struct DownlinkMacCommandCreator {
     kind: DownlinkKind,
     image: [u8; 6],

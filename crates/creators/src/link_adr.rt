@@ -24,13 +24,13 @@ fn redundancy_in(image: &mut [u8], redundancy: Redundancy)
     octet(image, 3, redundancy.raw_value());
 }
 
-#[derive(Drop)]
+#[derive(Clone, Copy)]
 pub struct LinkADRReqCreator {
     pub(crate) data: [u8; 5],
 }
 
 // The creator, and whether the setter was accepted. A refused setter hands the creator back unchanged (RULES: F2).
-#[derive(Drop)]
+#[derive(Clone, Copy)]
 pub struct LinkADRReqCreatorAnswer {
     pub verdict: Verdict,
     pub creator: LinkADRReqCreator,
@@ -112,7 +112,7 @@ impl LinkADRReqCreator {
     }
 }
 
-#[derive(Drop)]
+#[derive(Clone, Copy)]
 pub struct LinkADRAnsCreator {
     pub(crate) data: [u8; 2],
 }

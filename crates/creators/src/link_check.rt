@@ -5,7 +5,7 @@ ghost use Rattle.creators.specs.Image.{new_of, image_length, default_of, put_at}
 
 use crate::engine::octet;
 
-#[derive(Drop)]
+#[derive(Clone, Copy)]
 pub struct LinkCheckReqCreator {}
 
 impl LinkCheckReqCreator {
@@ -41,7 +41,7 @@ impl LinkCheckReqCreator {
     }
 }
 
-#[derive(Drop)]
+#[derive(Clone, Copy)]
 pub struct LinkCheckAnsCreator {
     pub(crate) data: [u8; 3],
 }

@@ -15,7 +15,7 @@ fn data_rate_range_in(image: &mut [u8], data_rate_range: DataRateRange)
     octet(image, 4, data_rate_range.raw_value());
 }
 
-#[derive(Drop)]
+#[derive(Clone, Copy)]
 pub struct NewChannelReqCreator {
     pub(crate) data: [u8; 6],
 }
@@ -81,7 +81,7 @@ impl NewChannelReqCreator {
     }
 }
 
-#[derive(Drop)]
+#[derive(Clone, Copy)]
 pub struct NewChannelAnsCreator {
     pub(crate) data: [u8; 2],
 }

@@ -15,7 +15,7 @@ fn dl_settings_in(image: &mut [u8], dl_settings: DLSettings)
     octet(image, 0, dl_settings.raw_value());
 }
 
-#[derive(Drop)]
+#[derive(Clone, Copy)]
 pub struct RXParamSetupReqCreator {
     pub(crate) data: [u8; 5],
 }
@@ -72,7 +72,7 @@ impl RXParamSetupReqCreator {
     }
 }
 
-#[derive(Drop)]
+#[derive(Clone, Copy)]
 pub struct RXParamSetupAnsCreator {
     pub(crate) data: [u8; 2],
 }

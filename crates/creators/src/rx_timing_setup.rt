@@ -7,13 +7,13 @@ ghost use Rattle.creators.specs.Image.{new_of, image_length, default_of, checked
 use crate::engine::nibble;
 use table::{Refusal, Verdict};
 
-#[derive(Drop)]
+#[derive(Clone, Copy)]
 pub struct RXTimingSetupReqCreator {
     pub(crate) data: [u8; 2],
 }
 
 // The creator, and whether the setter was accepted. A refused setter hands the creator back unchanged (RULES: F2).
-#[derive(Drop)]
+#[derive(Clone, Copy)]
 pub struct RXTimingSetupReqCreatorAnswer {
     pub verdict: Verdict,
     pub creator: RXTimingSetupReqCreator,
@@ -65,7 +65,7 @@ impl RXTimingSetupReqCreator {
     }
 }
 
-#[derive(Drop)]
+#[derive(Clone, Copy)]
 pub struct RXTimingSetupAnsCreator {}
 
 impl RXTimingSetupAnsCreator {

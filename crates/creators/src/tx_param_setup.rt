@@ -18,13 +18,13 @@ fn dwell_in(image: &mut [u8], k: u8)
     flag(image, 0, k, true);
 }
 
-#[derive(Drop)]
+#[derive(Clone, Copy)]
 pub struct TXParamSetupReqCreator {
     pub(crate) data: [u8; 2],
 }
 
 // The creator, and whether the setter was accepted. A refused setter hands the creator back unchanged (RULES: F2).
-#[derive(Drop)]
+#[derive(Clone, Copy)]
 pub struct TXParamSetupReqCreatorAnswer {
     pub verdict: Verdict,
     pub creator: TXParamSetupReqCreator,
@@ -92,7 +92,7 @@ impl TXParamSetupReqCreator {
     }
 }
 
-#[derive(Drop)]
+#[derive(Clone, Copy)]
 pub struct TXParamSetupAnsCreator {}
 
 impl TXParamSetupAnsCreator {

@@ -16,13 +16,13 @@ ghost use Rattle.fields.specs.Told.{told_bank, told_enabled};
 
 use table::{Refusal, Verdict};
 
-#[derive(Drop)]
+#[derive(Clone, Copy)]
 pub enum BankAnswer {
     Is(u8),
     Refused(Refusal),
 }
 
-#[derive(Drop)]
+#[derive(Clone, Copy)]
 pub enum EnabledAnswer {
     Is(bool),
     Refused(Refusal),
@@ -119,12 +119,12 @@ fn ones_of(low: u8, high: u8) -> u32
     u16::count_ones((low as u16) + 256 * (high as u16))
 }
 
-#[derive(Drop)]
+#[derive(Clone, Copy)]
 pub struct ChannelMask2([u8; 2]);
 
 // A mask, and whether the call that made it was accepted. A refused call hands the mask back unchanged (RULES: F2); a refused `new` hands
 // back a mask of zeros.
-#[derive(Drop)]
+#[derive(Clone, Copy)]
 pub struct ChannelMask2Answer {
     pub verdict: Verdict,
     pub mask: ChannelMask2,
@@ -218,12 +218,12 @@ impl ChannelMask2 {
 
 // ---- Width 9: 72 channels.
 
-#[derive(Drop)]
+#[derive(Clone, Copy)]
 pub struct ChannelMask9([u8; 9]);
 
 // A mask, and whether the call that made it was accepted. A refused call hands the mask back unchanged (RULES: F2); a refused `new` hands
 // back a mask of zeros.
-#[derive(Drop)]
+#[derive(Clone, Copy)]
 pub struct ChannelMask9Answer {
     pub verdict: Verdict,
     pub mask: ChannelMask9,

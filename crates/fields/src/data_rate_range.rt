@@ -6,10 +6,10 @@ ghost use Rattle.fields.specs.Told.{told_range};
 use table::{Refusal, Verdict};
 
 // The data rates that a channel may use.
-#[derive(Drop)]
+#[derive(Clone, Copy)]
 pub struct DataRateRange(u8);
 
-#[derive(Drop)]
+#[derive(Clone, Copy)]
 pub enum DataRateRangeAnswer {
     Read(DataRateRange),
     Refused(Refusal),

@@ -2,7 +2,7 @@ ghost use Rattle.std.specs.Prelude.{◌≡◌};
 ghost use Rattle.fields.specs.Settings.{rx1_dr_offset, rx2_data_rate};
 
 // The downlink settings of RXParamSetupReq.
-#[derive(Drop)]
+#[derive(Clone, Copy)]
 pub struct DLSettings(u8);
 
 impl DLSettings {

@@ -6,10 +6,10 @@ ghost use Rattle.fields.specs.Told.{told_frequency};
 use table::Refusal;
 
 // A channel's central frequency, in steps of 100 Hz: three bytes, low byte first.
-#[derive(Drop)]
+#[derive(Clone, Copy)]
 pub struct Frequency(u8, u8, u8);
 
-#[derive(Drop)]
+#[derive(Clone, Copy)]
 pub enum FrequencyAnswer {
     Read(Frequency),
     Refused(Refusal),

@@ -2,7 +2,7 @@ ghost use Rattle.std.specs.Prelude.{◌≡◌};
 ghost use Rattle.fields.specs.Settings.{channel_mask_control, number_of_transmissions};
 
 // The redundancy byte of LinkADRReq.
-#[derive(Drop)]
+#[derive(Clone, Copy)]
 pub struct Redundancy(u8);
 
 impl Redundancy {

@@ -9,7 +9,7 @@ use table::{Refusal, Rules};
 use walk::{after_steps, walk};
 
 // How many entries were written, or a refusal.
-#[derive(Drop)]
+#[derive(Clone, Copy)]
 pub enum EntriesAnswer {
     Total(usize),
     Refused(Refusal),

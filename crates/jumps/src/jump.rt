@@ -8,7 +8,7 @@ use table::{Refusal, Rules};
 use walk::{Step, after_steps, step_at};
 
 // A command: its offset, its CID, and how many bytes its payload has; or a refusal.
-#[derive(Drop)]
+#[derive(Clone, Copy)]
 pub enum JumpAnswer {
     Command { at: usize, cid: u8, len: usize },
     Refused(Refusal),

@@ -6,7 +6,7 @@ use mathlib.Core.Logic.{◌⊎◌, inl, inr}
 use mathlib.Core.Option.{Option, none, some}
 use mathlib.Core.Path.{◌≡◌, refl, sym, ap, ◌∙◌}
 use native.Mathlib.Omega.{arith}
-use borrow.Author.Tests.{eqb_true, ne_eqb}
+use borrow.Author.Tests.{eqb-true, ne_eqb}
 use lib.Dec.{eqb, ltb}
 use lib.ListN.{length, take, drop}
 use Rattle.table.specs.Answers.{Answer, given, refused, Consent, accepted}
@@ -81,7 +81,7 @@ pub fault_known : (text : List ℕ) (b : Book) (k : ℕ) {c : Book} → told_run
 fault_known text b k e = by (eqb k 0) refl
   where
     by : (t : Bool) → eqb k 0 ≡ t → (k ≡ 0) ⊎ Refuses k
-    by true q = inl (eqb_true k 0 q)
+    by true q = inl (eqb-true k 0 q)
     by false q = inr (all_refuse (lines_of text) b (sym (ap (λ (x : Consent × ℕ × Book). x.0) e) ∙ ap (λ (t : Bool). cond t accepted (refused k)) q))
 
 abbrev both : Answer ℕ → Book → Answer ℕ × Book

@@ -7,7 +7,7 @@ use mathlib.Core.Option.{Option, none, some}
 use mathlib.Core.Path.{◌≡◌, refl, sym, ap, ◌∙◌, subst}
 use native.Mathlib.Decide.{dec_lt}
 use native.Mathlib.Omega.{arith}
-use borrow.Author.Tests.{eqb_true, eqb-false, eq-eqb, ne_eqb, lt-ltb, le-ltb}
+use borrow.Author.Tests.{eqb-true, eqb-false, eq-eqb, ne_eqb, lt-ltb, le-ltb}
 use lib.Dec.{eqb, ltb}
 use lib.ListN.{
   length,
@@ -214,13 +214,13 @@ module _ (asks : ℕ → Bool) (p : List ℕ) where
       here : (c : ℕ) → asks c ≡ true → (t : Bool) → eqb r.cid c ≡ t
           → length (cond t (pending r.cid ++ (r ∷ [])) (pending c)) ≡ length (pending_in p c) + get_or (more seen r.cid) c 0
       here c e true q =
-          let same : r.cid ≡ c = eqb_true r.cid c q in
+          let same : r.cid ≡ c = eqb-true r.cid c q in
           rw (← same, get_or-set_same seen r.cid (get_or seen r.cid 0 + 1) 0 h, length-append) (omega (arith, k.asked_more r.cid w))
       here c e false q = rw (get_or-set_other seen r.cid c (get_or seen r.cid 0 + 1) 0 (λ z. eqb-false r.cid c q (sym z))) (k.asked_more c e)
 
       other : (c : ℕ) → asks c ≡ false → (t : Bool) → eqb r.cid c ≡ t
           → cond t (pending r.cid ++ (r ∷ [])) (pending c) ≡ drop (get_or (more seen r.cid) c 0) (pending_in p c)
-      other c e true q = absurd (true≢false (sym w ∙ ap asks (eqb_true r.cid c q) ∙ e))
+      other c e true q = absurd (true≢false (sym w ∙ ap asks (eqb-true r.cid c q) ∙ e))
       other c e false q = rw (get_or-set_other seen r.cid c (get_or seen r.cid 0 + 1) 0 (λ z. eqb-false r.cid c q (sym z))) (k.answered c e)
 
   kept_answer : {pending : ℕ → List Request} {seen : List ℕ} (d : ℕ) → asks d ≡ false → d < length seen → Kept pending seen
@@ -230,13 +230,13 @@ module _ (asks : ℕ → Bool) (p : List ℕ) where
       here : (c : ℕ) → asks c ≡ false → (t : Bool) → eqb d c ≡ t
           → cond t (tail (pending d)) (pending c) ≡ drop (get_or (more seen d) c 0) (pending_in p c)
       here c e true q =
-          let same : d ≡ c = eqb_true d c q in
+          let same : d ≡ c = eqb-true d c q in
           rw (← same, get_or-set_same seen d (get_or seen d 0 + 1) 0 h) (ap tail (k.answered d w) ∙ tail_drop (get_or seen d 0) (pending_in p d))
       here c e false q = rw (get_or-set_other seen d c (get_or seen d 0 + 1) 0 (λ z. eqb-false d c q (sym z))) (k.answered c e)
 
       other : (c : ℕ) → asks c ≡ true → (t : Bool) → eqb d c ≡ t
           → length (cond t (tail (pending d)) (pending c)) ≡ length (pending_in p c) + get_or (more seen d) c 0
-      other c e true q = absurd (true≢false (sym e ∙ ap asks (sym (eqb_true d c q)) ∙ w))
+      other c e true q = absurd (true≢false (sym e ∙ ap asks (sym (eqb-true d c q)) ∙ w))
       other c e false q = rw (get_or-set_other seen d c (get_or seen d 0 + 1) 0 (λ z. eqb-false d c q (sym z))) (k.asked_more c e)
 
   -- an answer without a request: nothing is open, and nothing leaves
@@ -247,7 +247,7 @@ module _ (asks : ℕ → Bool) (p : List ℕ) where
       record { asked_more = λ c q. ap length (same c (eqb d c) refl) ∙ m.asked_more c q; answered = λ c q. same c (eqb d c) refl ∙ m.answered c q }
     where
       same : (c : ℕ) (t : Bool) → eqb d c ≡ t → pending c ≡ cond t (tail (pending d)) (pending c)
-      same c true q = ap pending (sym (eqb_true d c q)) ∙ none_tail (pending d) e
+      same c true q = ap pending (sym (eqb-true d c q)) ∙ none_tail (pending d) e
       same c false q = refl
 
   module _ (b : Book) {seen : List ℕ} {left : ℕ} (k : Kept b.pending seen) (r : left ≡ left_in b) where

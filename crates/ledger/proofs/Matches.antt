@@ -7,7 +7,7 @@ use mathlib.Core.Option.{Option, none, some}
 use mathlib.Core.Path.{◌≡◌, refl, sym, ap, ◌∙◌, subst}
 use native.Mathlib.Decide.{dec_le, dec_lt}
 use native.Mathlib.Omega.{arith}
-use borrow.Author.Tests.{eqb_true, eqb-false, eq-eqb}
+use borrow.Author.Tests.{eqb-true, eqb-false, eq-eqb}
 use lib.Dec.{eqb}
 use lib.ListN.{length, drop, length-append}
 use lib.Seq.{drop_at}
@@ -110,7 +110,7 @@ module _ (c : ℕ) where
           which l more now (yes m) = inl ((h k).1 m)
           which l more now (no m) =
               let k_is : length (gone c past) ≡ k = omega arith in
-              inr (eqb_true a.cid c e, subst (Earliest (Answered c past) (length (requests c past))) k_is (at_end h more))
+              inr (eqb-true a.cid c e, subst (Earliest (Answered c past) (length (requests c past))) k_is (at_end h more))
   answered_is (stop_at p ∷ past) k = simp append-nil (answered_is past k)
 
 -- ---- the request number n of a CID stands in the past, with n of them before it
@@ -155,7 +155,7 @@ module _ (c : ℕ) where
           between = [];
           before = past;
           past_is = ap (λ (x : Request). request x ∷ past) p.0;
-          cid_is = ap (λ (x : Request). x.cid) (sym p.0) ∙ eqb_true q.cid c t;
+          cid_is = ap (λ (x : Request). x.cid) (sym p.0) ∙ eqb-true q.cid c t;
           earlier = p.1;
         }
         | inr p ↦ behind (request q) (h p.0 p.1)

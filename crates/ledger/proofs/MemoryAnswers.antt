@@ -5,7 +5,7 @@ use mathlib.Core.List.{List, [], ◌∷◌, head?, tail}
 use mathlib.Core.Option.{Option, none}
 use mathlib.Core.Path.{◌≡◌, refl, sym, ap, fun_ext, ◌∙◌}
 use native.Mathlib.Omega.{arith}
-use borrow.Author.Tests.{eqb_true, eq-eqb, ne_eqb, lt-ltb, ltb-true}
+use borrow.Author.Tests.{eqb-true, eq-eqb, ne_eqb, lt-ltb, ltb-true}
 use lib.Dec.{eqb, ltb}
 use lib.ListN.{length, get_or, take}
 use Rattle.bits.specs.Memory.{over}
@@ -51,7 +51,7 @@ module _ (c n f o b row : ℕ) (row_is : row ≡ row_written c (b % 256)) where
   same_writer σ e = by (eqb c (writer σ).cid) refl e
     where
       by : (t : Bool) → eqb c (writer σ).cid ≡ t → (t && is_for σ (five_of b)) ≡ true → c ≡ (writer σ).cid
-      by true q g = eqb_true c (writer σ).cid q
+      by true q g = eqb-true c (writer σ).cid q
       by false q g = let z : ◌≡◌ {A = ℕ} 0 1 = cc in absurd (omega arith)
 
   -- it is held

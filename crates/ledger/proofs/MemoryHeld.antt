@@ -5,7 +5,7 @@ use mathlib.Core.List.{List, [], ◌∷◌}
 use mathlib.Core.Path.{◌≡◌, refl, sym, ap, ap₂, ◌∙◌}
 use native.Mathlib.Decide.{dec_lt}
 use native.Mathlib.Omega.{arith}
-use borrow.Author.Tests.{eqb_true, eqb-false}
+use borrow.Author.Tests.{eqb-true, eqb-false}
 use lib.Dec.{eqb}
 use lib.ListN.{length, get_or, set, take, length-set}
 use lib.Seq.{get_or-set_same, get_or-set_other}
@@ -102,7 +102,7 @@ module _ (w : List ℕ) (row : ℕ) (size : length w ≡ 333) (known : row < 37)
     held_after p = by (eqb row p) refl
       where
         by : (t : Bool) → eqb row p ≡ t → row_in after c p ≡ cond t (take 2 (made c n f o b ∷ row_in w c p)) (row_in w c p)
-        by true e = let q = eqb_true row p e in ap (row_in after c) (sym q) ∙ own ∙ ap (λ (r : ℕ). take 2 (made c n f o b ∷ row_in w c r)) q
+        by true e = let q = eqb-true row p e in ap (row_in after c) (sym q) ∙ own ∙ ap (λ (r : ℕ). take 2 (made c n f o b ∷ row_in w c r)) q
         by false e = others p (eqb-false row p e)
 
 -- what `hold` does, by rows

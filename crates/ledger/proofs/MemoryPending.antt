@@ -7,7 +7,7 @@ use mathlib.Core.Path.{◌≡◌, refl, sym, ap, ap₂, fun_ext, ◌∙◌}
 use native.Mathlib.Decide.{dec_lt}
 use native.Mathlib.Numerals.{add-one}
 use native.Mathlib.Omega.{arith}
-use borrow.Author.Tests.{eqb_true, eqb-false}
+use borrow.Author.Tests.{eqb-true, eqb-false}
 use lib.Dec.{eqb}
 use lib.ListN.{length, get_or, set, take, drop, length-set, length-drop}
 use lib.Seq.{get_or-set_same, get_or-set_other, get_or-take, get_or-drop, length-take-le, take-suc}
@@ -59,7 +59,7 @@ pub put_in : (v w : List ℕ) (c : ℕ) (rs : List Request) → OneDiffers v w c
 put_in v w c rs o e = fun_ext (λ d. by d (eqb c d) refl)
   where
     by : (d : ℕ) (b : Bool) → eqb c d ≡ b → pending_in v d ≡ cond b rs (pending_in w d)
-    by d true q = ap (pending_in v) (sym (eqb_true c d q)) ∙ e
+    by d true q = ap (pending_in v) (sym (eqb-true c d q)) ∙ e
     by d false q = others_same v w c d o (eqb-false c d q)
 
 module _ (w : List ℕ) (c : ℕ) (size : length w ≡ 528) (known : c < 16) where

@@ -5,7 +5,7 @@ use mathlib.Core.List.{[], ◌∷◌}
 use mathlib.Core.Path.{◌≡◌, refl, sym, ap, ap₂, subst, ◌∙◌}
 use native.Mathlib.Decide.{dec_lt}
 use native.Mathlib.Omega.{arith}
-use borrow.Author.Tests.{eqb_true, eqb-false, eq-eqb, ne_eqb, lt-ltb, le-ltb}
+use borrow.Author.Tests.{eqb-true, eqb-false, eq-eqb, ne_eqb, lt-ltb, le-ltb}
 use lib.Dec.{eqb, ltb}
 use lib.ListN.{get_or}
 use Rattle.fields.specs.Places.{number_at, octet}
@@ -51,13 +51,13 @@ known c = by (eqb c 3) (eqb c 4) (eqb c 5) (eqb c 8) (eqb c 9) (eqb c 7) (eqb c 
   where
     by : (b₃ b₄ b₅ b₈ b₉ b₇ b₁₀ : Bool) → eqb c 3 ≡ b₃ → eqb c 4 ≡ b₄ → eqb c 5 ≡ b₅ → eqb c 8 ≡ b₈ → eqb c 9 ≡ b₉ → eqb c 7 ≡ b₇ → eqb c 10 ≡ b₁₀
         → Known c
-    by true b₄ b₅ b₈ b₉ b₇ b₁₀ e₃ e₄ e₅ e₈ e₉ e₇ e₁₀ = subst Known (sym (eqb_true c 3 e₃)) adr
-    by false true b₅ b₈ b₉ b₇ b₁₀ e₃ e₄ e₅ e₈ e₉ e₇ e₁₀ = subst Known (sym (eqb_true c 4 e₄)) duty
-    by false false true b₈ b₉ b₇ b₁₀ e₃ e₄ e₅ e₈ e₉ e₇ e₁₀ = subst Known (sym (eqb_true c 5 e₅)) windows
-    by false false false true b₉ b₇ b₁₀ e₃ e₄ e₅ e₈ e₉ e₇ e₁₀ = subst Known (sym (eqb_true c 8 e₈)) timing
-    by false false false false true b₇ b₁₀ e₃ e₄ e₅ e₈ e₉ e₇ e₁₀ = subst Known (sym (eqb_true c 9 e₉)) limits
-    by false false false false false true b₁₀ e₃ e₄ e₅ e₈ e₉ e₇ e₁₀ = subst Known (sym (eqb_true c 7 e₇)) channel
-    by false false false false false false true e₃ e₄ e₅ e₈ e₉ e₇ e₁₀ = subst Known (sym (eqb_true c 10 e₁₀)) downlink
+    by true b₄ b₅ b₈ b₉ b₇ b₁₀ e₃ e₄ e₅ e₈ e₉ e₇ e₁₀ = subst Known (sym (eqb-true c 3 e₃)) adr
+    by false true b₅ b₈ b₉ b₇ b₁₀ e₃ e₄ e₅ e₈ e₉ e₇ e₁₀ = subst Known (sym (eqb-true c 4 e₄)) duty
+    by false false true b₈ b₉ b₇ b₁₀ e₃ e₄ e₅ e₈ e₉ e₇ e₁₀ = subst Known (sym (eqb-true c 5 e₅)) windows
+    by false false false true b₉ b₇ b₁₀ e₃ e₄ e₅ e₈ e₉ e₇ e₁₀ = subst Known (sym (eqb-true c 8 e₈)) timing
+    by false false false false true b₇ b₁₀ e₃ e₄ e₅ e₈ e₉ e₇ e₁₀ = subst Known (sym (eqb-true c 9 e₉)) limits
+    by false false false false false true b₁₀ e₃ e₄ e₅ e₈ e₉ e₇ e₁₀ = subst Known (sym (eqb-true c 7 e₇)) channel
+    by false false false false false false true e₃ e₄ e₅ e₈ e₉ e₇ e₁₀ = subst Known (sym (eqb-true c 10 e₁₀)) downlink
     by false false false false false false false e₃ e₄ e₅ e₈ e₉ e₇ e₁₀ = other {c = c} e₇ e₁₀ (λ i. simp (e₃, e₄, e₅, e₈, e₉, e₇, e₁₀))
 
 -- a channel's row, and 38 for one that is not held
@@ -152,7 +152,7 @@ module _ (first k i : ℕ) (l : first < 22) where
   names = by (eqb k i) refl
     where
       by : (b : Bool) → eqb k i ≡ b → (b && ltb k 16) ≡ eqb (row_for first i) (channel_row first k)
-      by true e = row_own ∙ ap (λ (n : ℕ). eqb (row_for first n) (channel_row first k)) (eqb_true k i e)
+      by true e = row_own ∙ ap (λ (n : ℕ). eqb (row_for first n) (channel_row first k)) (eqb-true k i e)
       by false e = sym (ne_eqb (row_for first i) (channel_row first k) (rows_apart (eqb-false k i e)))
 
 names_in : (first k b : ℕ) → first < 22 → (eqb k (named b) && ltb k 16) ≡ eqb (row_for first (b % 256)) (channel_row first k)
@@ -249,7 +249,7 @@ module _ (c n f o b : ℕ) where
   writes_row h σ = by (eqb c (writer σ).cid) refl
     where
       by : (t : Bool) → eqb c (writer σ).cid ≡ t → (t && is_for σ (five_of b)) ≡ eqb (row_written c (b % 256)) (row_of σ)
-      by true e = for_row σ b ∙ ap (λ (d : ℕ). eqb (row_written d (b % 256)) (row_of σ)) (sym (eqb_true c (writer σ).cid e))
+      by true e = for_row σ b ∙ ap (λ (d : ℕ). eqb (row_written d (b % 256)) (row_of σ)) (sym (eqb-true c (writer σ).cid e))
       by false e =
           sym (ne_eqb (row_written c (b % 256)) (row_of σ) (λ q.
           eqb-false c (writer σ).cid e (sym (writer_of (known c) (b % 256) h) ∙ ap cid_of q ∙ cid_of_row σ (subst (λ (r : ℕ). r < 37) q h))))
@@ -259,7 +259,7 @@ module _ (c n f o b : ℕ) where
   writes_none h σ = by (eqb c (writer σ).cid) refl
     where
       by : (t : Bool) → eqb c (writer σ).cid ≡ t → (t && is_for σ (five_of b)) ≡ false
-      by true e = absurd (writer_writes σ (b % 256) (ap (λ (d : ℕ). row_written d (b % 256)) (sym (eqb_true c (writer σ).cid e)) ∙ h))
+      by true e = absurd (writer_writes σ (b % 256) (ap (λ (d : ℕ). row_written d (b % 256)) (sym (eqb-true c (writer σ).cid e)) ∙ h))
       by false e = refl
 
   pub beyond_row : is_beyond (made c n f o b) ≡ eqb (row_written c (b % 256)) 38

@@ -6,7 +6,7 @@ use mathlib.Core.Logic.{◌⊎◌, inl, inr}
 use mathlib.Core.Option.{Option, none, some}
 use mathlib.Core.Path.{◌≡◌, refl, sym, ap, ap₂, ◌∙◌, subst}
 use native.Mathlib.Omega.{arith}
-use borrow.Author.Tests.{eqb_true, eq-eqb}
+use borrow.Author.Tests.{eqb-true, eq-eqb}
 use lib.ListN.{length, take, drop}
 use lib.Seq.{drop_at}
 use Rattle.ledger.specs.Book.{Book, taken_all}
@@ -156,7 +156,7 @@ module _ (σ : Setting) where
             named = refl;
             told = refl;
             marked = (
-              λ h. (q, one-before.0, eqb_true (says σ p.body) (says σ q.body) h),
+              λ h. (q, one-before.0, eqb-true (says σ p.body) (says σ q.body) h),
               λ x. eq-eqb (says σ p.body) (says σ q.body)
                   (x.2 ∙ ap (λ (r : Request). says σ r.body) (sym (one_parent one-before.0 x.1).0)),
             );

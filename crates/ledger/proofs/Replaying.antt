@@ -7,7 +7,7 @@ use mathlib.Core.Logic.{◌⊎◌, inl, inr}
 use mathlib.Core.Option.{Option, none, some}
 use mathlib.Core.Path.{◌≡◌, refl, sym, ap, ◌∙◌, fun_ext}
 use native.Mathlib.Omega.{arith}
-use borrow.Author.Tests.{eqb_true, eqb-false, ltb-true, ne_eqb, le-ltb}
+use borrow.Author.Tests.{eqb-true, eqb-false, ltb-true, ne_eqb, le-ltb}
 use lib.Dec.{eqb, ltb}
 use lib.ListN.{length, take, drop, length-append, length-drop}
 use lib.Seq.{take-take, take-append_seam, drop-append-add, drop-drop}
@@ -52,11 +52,11 @@ high c i j h = by (eqb c 7) refl (ltb 15 i) refl (eqb c 10) refl (ltb 15 j) refl
   where
     by : (p : Bool) → eqb c 7 ≡ p → (q : Bool) → ltb 15 i ≡ q → (s : Bool) → eqb c 10 ≡ s → (t : Bool) → ltb 15 j ≡ t → (p && q) || (s && t) ≡ true
         → High c i j
-    by true p true q s r t u h = inl (eqb_true c 7 p, ltb-true 15 i q)
-    by true p false q true r true u h = inr (eqb_true c 10 r, ltb-true 15 j u)
+    by true p true q s r t u h = inl (eqb-true c 7 p, ltb-true 15 i q)
+    by true p false q true r true u h = inr (eqb-true c 10 r, ltb-true 15 j u)
     by true p false q true r false u h = absurd (true≢false (sym h))
     by true p false q false r t u h = absurd (true≢false (sym h))
-    by false p b q true r true u h = inr (eqb_true c 10 r, ltb-true 15 j u)
+    by false p b q true r true u h = inr (eqb-true c 10 r, ltb-true 15 j u)
     by false p b q true r false u h = absurd (true≢false (sym h))
     by false p b q false r t u h = absurd (true≢false (sym h))
 
@@ -71,7 +71,7 @@ other_channel true n i h = by (eqb n i) refl
   where
     by : (b : Bool) → eqb n i ≡ b → b && ltb n 16 ≡ false
     by false e = refl
-    by true e = le-ltb n 16 (omega (arith, eqb_true n i e))
+    by true e = le-ltb n 16 (omega (arith, eqb-true n i e))
 
 at_seven : {c i j : ℕ} (n : ℕ) → High c i j → eqb c 7 && (eqb n i && ltb n 16) ≡ false
 at_seven {c} {i} {j} n (inl s) = other_channel (eqb c 7) n i s.1
@@ -107,7 +107,7 @@ higher_not_held r b = by (high r.cid (number_at new_channel_req_channel_index r.
 -- what is open, changed in its place, is what is open of each CID, changed if it is that one
 put_at : (f : List Request → List Request) (qs : ℕ → List Request) (c d : ℕ) (b : Bool) → eqb c d ≡ b
     → cond b (f (qs c)) (qs d) ≡ cond b (f (qs d)) (qs d)
-put_at f qs c d true e = ap (λ (k : ℕ). f (qs k)) (eqb_true c d e)
+put_at f qs c d true e = ap (λ (k : ℕ). f (qs k)) (eqb-true c d e)
 put_at f qs c d false e = refl
 
 nothing_leaves : (rs : List Request) → head? rs ≡ none → tail rs ≡ rs
@@ -117,7 +117,7 @@ nothing_leaves (r ∷ rs) h = cc
 -- so a stray changes nothing
 unmoved : (past : List Event) (c d : ℕ) → head? (unanswered c past) ≡ none → (b : Bool) → eqb c d ≡ b
     → unanswered d past ≡ cond b (tail (unanswered d past)) (unanswered d past)
-unmoved past c d h true e = sym (nothing_leaves (unanswered d past) (ap (λ (k : ℕ). head? (unanswered k past)) (sym (eqb_true c d e)) ∙ h))
+unmoved past c d h true e = sym (nothing_leaves (unanswered d past) (ap (λ (k : ℕ). head? (unanswered k past)) (sym (eqb-true c d e)) ∙ h))
 unmoved past c d h false e = refl
 
 cond_same : {A : Type 0} (b : Bool) (x : A) → cond b x x ≡ x

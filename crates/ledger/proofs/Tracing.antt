@@ -8,7 +8,7 @@ use native.Mathlib.Omega.{arith}
 use lib.Dec.{eqb, ltb}
 use lib.ListN.{length, drop, length-append, length-drop, drop_of_length-le}
 use lib.Seq.{drop-drop, drop-append_seam}
-use borrow.Author.Tests.{eqb_true, eq-eqb, ne_eqb, ltb-true, lt-ltb}
+use borrow.Author.Tests.{eqb-true, eq-eqb, ne_eqb, ltb-true, lt-ltb}
 use Rattle.bits.specs.Bits.{Byte}
 use Rattle.bits.specs.Every.{Every}
 use Rattle.table.specs.declared.rules.Direction.{Direction}
@@ -158,7 +158,7 @@ begins_rest [] t e = refl
 begins_rest (c ∷ s) [] e = let no_way : ◌≡◌ {A = ℕ} 0 1 = cc in absurd (omega arith)
 begins_rest (c ∷ s) (d ∷ t) e =
     let h = both (eqb c d) (begins s t) e in
-    ap₂ (λ (x : ℕ) (l : List ℕ). x ∷ l) (sym (eqb_true c d h.0)) (begins_rest s t h.1)
+    ap₂ (λ (x : ℕ) (l : List ℕ). x ∷ l) (sym (eqb-true c d h.0)) (begins_rest s t h.1)
 
 pub taken : {A : Type 0} (b : Bool) (x y : A) → cond b (some x) none ≡ some y → (b ≡ true) × (x ≡ y)
 taken true x y e = (refl, cc)

@@ -9,7 +9,7 @@ use native.Mathlib.Omega.{arith}
 use lib.Dec.{eqb, ltb}
 use lib.ListN.{length, take, drop, length-append, length-drop}
 use lib.Seq.{drop-append_seam, drop-append-add, drop_at, drop-drop}
-use borrow.Author.Tests.{eqb_true, eqb-false, ne_eqb, ltb-true, lt-ltb, le-ltb}
+use borrow.Author.Tests.{eqb-true, eqb-false, ne_eqb, ltb-true, lt-ltb, le-ltb}
 use Rattle.bits.specs.Bits.{Byte}
 use Rattle.bits.specs.Every.{Every}
 use Rattle.table.specs.declared.rules.Direction.{Direction}
@@ -233,7 +233,7 @@ number_form (c ∷ t) h = by (eqb c 48) refl h
     more (x ∷ s) u e d n h = leads x s d (λ z. n (head_is e ∙ z))
 
     by : (b : Bool) → eqb c 48 ≡ b → 0 < length (cond b (c ∷ []) (digits_in 0 (c ∷ t))) → Numeral (cond b (c ∷ []) (digits_in 0 (c ∷ t)))
-    by true e h = let z = eqb_true c 48 e in (omega arith, omega arith)
+    by true e h = let z = eqb-true c 48 e in (omega arith, omega arith)
     by false e h =
         more (digits_in 0 (c ∷ t)) (drop (length (digits_in 0 (c ∷ t))) (c ∷ t)) (digits_front 0 (c ∷ t)) (digits_form 0 (c ∷ t)) (eqb-false c 48 e) h
 
@@ -244,10 +244,10 @@ letter_found d x e = by (eqb d 68) (eqb d 85) refl refl e
     by : (p q : Bool) → eqb d 68 ≡ p → eqb d 85 ≡ q → cond p (some Down) (cond q (some Up) none) ≡ some x → ascii (letter_of x) ≡ d ∷ []
     by true q f g e =
         let same : Down ≡ x = cc in
-        ap (λ (y : Direction). ascii (letter_of y)) (sym same) ∙ ap (λ (n : ℕ). n ∷ []) (sym (eqb_true d 68 f))
+        ap (λ (y : Direction). ascii (letter_of y)) (sym same) ∙ ap (λ (n : ℕ). n ∷ []) (sym (eqb-true d 68 f))
     by false true f g e =
         let same : Up ≡ x = cc in
-        ap (λ (y : Direction). ascii (letter_of y)) (sym same) ∙ ap (λ (n : ℕ). n ∷ []) (sym (eqb_true d 85 g))
+        ap (λ (y : Direction). ascii (letter_of y)) (sym same) ∙ ap (λ (n : ℕ). n ∷ []) (sym (eqb-true d 85 g))
     by false false f g e = let no_way : ◌≡◌ {A = ℕ} 0 1 = cc in absurd (omega arith)
 
 heading_found : (t : List ℕ) (x : Direction) → heading_in t ≡ some x → t ≡ 9 ∷ (ascii (letter_of x) ++ (9 ∷ drop 3 t))
@@ -260,7 +260,7 @@ heading_found (c ∷ d ∷ f ∷ t) x e = by (eqb c 9 && eqb f 9) refl e
     by : (b : Bool) → eqb c 9 && eqb f 9 ≡ b → cond b (direction_in d) none ≡ some x → c ∷ d ∷ f ∷ t ≡ 9 ∷ (ascii (letter_of x) ++ (9 ∷ t))
     by true g e =
         let tabs = both (eqb c 9) (eqb f 9) g in
-        ap₂ (λ (a b : ℕ). a ∷ d ∷ b ∷ t) (eqb_true c 9 tabs.0) (eqb_true f 9 tabs.1)
+        ap₂ (λ (a b : ℕ). a ∷ d ∷ b ∷ t) (eqb-true c 9 tabs.0) (eqb-true f 9 tabs.1)
         ∙ ap (λ (l : List ℕ). 9 ∷ (l ++ (9 ∷ t))) (sym (letter_found d x e))
     by false g e = let no_way : ◌≡◌ {A = ℕ} 0 1 = cc in absurd (omega arith)
 
@@ -337,7 +337,7 @@ field_found (c ∷ t) p e = by (eqb c 45) refl e
     by true d e =
         let g = closed_found [] 1 (c ∷ t) p e in
         subst (FieldRead (c ∷ t)) g.0
-        (record { size = omega arith; bytes = tt; rest = drop 1 t; text = ap₂ (λ (x : ℕ) (l : List ℕ). x ∷ l) (eqb_true c 45 d) g.1 })
+        (record { size = omega arith; bytes = tt; rest = drop 1 t; text = ap₂ (λ (x : ℕ) (l : List ℕ). x ∷ l) (eqb-true c 45 d) g.1 })
     by false d e =
         some_pairs (pairs_in 255 (c ∷ t)) (omega (arith, pairs_few 255 (c ∷ t))) (pairs_form 255 (c ∷ t)) (pairs_front 255 (c ∷ t)) e
 

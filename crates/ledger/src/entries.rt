@@ -4,7 +4,7 @@ ghost use Rattle.ledger.specs.Asked.{note_of};
 ghost use Rattle.ledger.specs.Memory.{note_at};
 
 // An entry: its kind, and the place of the command or of the stop that it tells of.
-#[derive(Drop)]
+#[derive(Clone, Copy)]
 pub struct Entry {
     pub kind: u64,
     pub line: u64,

@@ -13,7 +13,7 @@ use crate::taking::apply;
 use table::{Refusal, Rules, Verdict};
 
 // What a replay came to: the verdict, the number of the line that is refused, 0 for none, and the ledger then.
-#[derive(Drop)]
+#[derive(Clone, Copy)]
 pub struct Replayed {
     pub verdict: Verdict,
     pub line: u64,
@@ -21,7 +21,7 @@ pub struct Replayed {
 }
 
 // What a line came to. A fault is the number of a refusal, and 0 for none.
-#[derive(Drop)]
+#[derive(Clone, Copy)]
 struct LineTaken {
     fault: u8,
     lines: u64,
@@ -29,7 +29,7 @@ struct LineTaken {
     next: usize,
 }
 
-#[derive(Drop)]
+#[derive(Clone, Copy)]
 struct Ran {
     fault: u8,
     lines: u64,

@@ -15,7 +15,7 @@ pub use entries::{Entry, entry_at};
 pub use exchange::{Replayed, replay_trace};
 pub use settings::Held;
 
-#[derive(Drop)]
+#[derive(Clone, Copy)]
 pub struct Ledger {
     pub lines: u64,
     pub listed: usize,

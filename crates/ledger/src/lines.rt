@@ -8,20 +8,20 @@ ghost use Rattle.ledger.specs.Working.{front_at};
 use table::Direction;
 
 // The value of the number in front, and the offset behind it.
-#[derive(Drop)]
+#[derive(Clone, Copy)]
 pub(crate) struct Number {
     pub value: u64,
     pub next: usize,
 }
 
-#[derive(Drop)]
+#[derive(Clone, Copy)]
 pub(crate) struct Heading {
     pub ok: bool,
     pub direction: Direction,
 }
 
 // How many bytes a stream has, and the offset behind its field and the newline.
-#[derive(Drop)]
+#[derive(Clone, Copy)]
 pub(crate) struct Field {
     pub ok: bool,
     pub len: usize,
@@ -29,7 +29,7 @@ pub(crate) struct Field {
 }
 
 // The line at an offset, but for its stream, and the offset behind it; or that none has the form there.
-#[derive(Drop)]
+#[derive(Clone, Copy)]
 pub(crate) struct LineAt {
     pub ok: bool,
     pub frame: u32,

@@ -34,7 +34,7 @@ use payloads::{
 
 // Whether a setting has a parent, where that request stands, what it says of the setting, and whether the parent before it said the same.
 // Where there is no parent, every number is 0 and every answer no.
-#[derive(Drop)]
+#[derive(Clone, Copy)]
 pub struct Held {
     pub known: bool,
     pub line: u64,
@@ -45,7 +45,7 @@ pub struct Held {
 }
 
 // The setting that is asked for, of a channel by its index.
-#[derive(Drop)]
+#[derive(Clone, Copy)]
 enum Which {
     DataRate,
     TxPower,
@@ -67,7 +67,7 @@ enum Which {
 // ---- Rows: settings that one request writes share one.
 
 // How many parents a row has, where the last of them stands, and the payloads of the last and of the one before it.
-#[derive(Drop)]
+#[derive(Clone, Copy)]
 struct Row {
     count: u64,
     line: u64,

@@ -11,7 +11,7 @@ use table::{Direction, Rules};
 use walk::{Step, step_at};
 
 // A stream, the offset in it at which the next command stands, and the rules that it is read by.
-#[derive(Drop)]
+#[derive(Clone, Copy)]
 pub struct MacCommandIterator<'a> {
     pub data: &'a [u8],
     pub index: usize,

@@ -13,7 +13,7 @@ use table::{Refusal, Rules};
 
 // The records judged so far: what is answered if none follows, their bytes, the place of the next, and how many are still to be judged.
 // A refusal leaves none.
-#[derive(Drop)]
+#[derive(Clone, Copy)]
 struct Tally {
     answer: BuildAnswer,
     sum: usize,

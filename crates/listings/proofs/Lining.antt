@@ -10,7 +10,7 @@ use lib.Dec.{eqb, leb}
 use lib.ListN.{length, length-append, take, drop, length-take, length-drop}
 use lib.Seq.{length-take-le}
 use lib.Text.{eqt}
-use borrow.Author.Tests.{eqb_true, leb-true}
+use borrow.Author.Tests.{eqb-true, leb-true}
 use Rattle.table.specs.declared.rules.Direction.{Direction}
 use Rattle.table.specs.declared.rules.Direction.TheVariants.{Down, Up}
 use Rattle.table.specs.declared.rules.Rules.{Rules}
@@ -58,7 +58,7 @@ unfolding among
 counted_down c = name_among "LinkADRReq" rows Down c ∙ simp never (by (eqb c 3) refl)
   where
     by : (b : Bool) → eqb c 3 ≡ b → cond (eqb c 2) false (cond b true false) ≡ b
-    by true e = ap (λ (k : ℕ). cond (eqb k 2) false true) (eqb_true c 3 e)
+    by true e = ap (λ (k : ℕ). cond (eqb k 2) false true) (eqb-true c 3 e)
     by false e = never (eqb c 2)
 
 -- the CID 03, sent down, and no other
@@ -72,7 +72,7 @@ counted_is Up c = counted_up c
 
 -- its payload has four bytes
 four_of : (d : Direction) (c n : ℕ) → counted_in d c ≡ true → length_in rows d c ≡ some n → n ≡ 4
-four_of Down c n e l = let c_is : c ≡ 3 = eqb_true c 3 e in let m : ◌≡◌ {A = Option ℕ} (some 4) (some n) = sym (ap (length_in rows Down) c_is) ∙ l in cc
+four_of Down c n e l = let c_is : c ≡ 3 = eqb-true c 3 e in let m : ◌≡◌ {A = Option ℕ} (some 4) (some n) = sym (ap (length_in rows Down) c_is) ∙ l in cc
 four_of Up c n e l = let no_way : ◌≡◌ {A = Bool} false true = e in cc
 
 pub counted_four : (rules : Rules) (c n : ℕ) → is_counted rules c ≡ true → length_of rules c ≡ some n → n ≡ 4

@@ -8,7 +8,7 @@ pub mod passes;
 pub use passes::{listing_len, write_listing};
 
 // The text's length, or a refusal.
-#[derive(Drop)]
+#[derive(Clone, Copy)]
 pub enum ListingAnswer {
     Total(usize),
     Refused(Refusal),

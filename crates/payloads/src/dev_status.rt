@@ -9,7 +9,7 @@ ghost use Rattle.payloads.specs.Told.{told_dev_status_ans};
 use table::Refusal;
 
 // Asks for the status of the device.
-#[derive(Drop)]
+#[derive(Clone, Copy)]
 pub struct DevStatusReqPayload();
 
 impl DevStatusReqPayload {
@@ -46,10 +46,10 @@ impl DevStatusReqPayload {
 }
 
 // Tells the status of the device.
-#[derive(Drop)]
+#[derive(Clone, Copy)]
 pub struct DevStatusAnsPayload(pub u8, pub u8);
 
-#[derive(Drop)]
+#[derive(Clone, Copy)]
 pub enum DevStatusAnsAnswer {
     Read(DevStatusAnsPayload),
     Refused(Refusal),

@@ -8,7 +8,7 @@ ghost use Rattle.payloads.specs.Told.{told_device_time_ans};
 use table::Refusal;
 
 // Asks for the network time.
-#[derive(Drop)]
+#[derive(Clone, Copy)]
 pub struct DeviceTimeReqPayload();
 
 impl DeviceTimeReqPayload {
@@ -52,10 +52,10 @@ fn low_first(a: u8, b: u8, c: u8, d: u8) -> u32
 }
 
 // Tells the network time: the seconds, and steps of 1/256 second.
-#[derive(Drop)]
+#[derive(Clone, Copy)]
 pub struct DeviceTimeAnsPayload(pub u8, pub u8, pub u8, pub u8, pub u8);
 
-#[derive(Drop)]
+#[derive(Clone, Copy)]
 pub enum DeviceTimeAnsAnswer {
     Read(DeviceTimeAnsPayload),
     Refused(Refusal),

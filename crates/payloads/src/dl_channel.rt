@@ -11,10 +11,10 @@ use fields::Frequency;
 use table::Refusal;
 
 // Sets the downlink frequency of a channel.
-#[derive(Drop)]
+#[derive(Clone, Copy)]
 pub struct DlChannelReqPayload(pub u8, pub u8, pub u8, pub u8);
 
-#[derive(Drop)]
+#[derive(Clone, Copy)]
 pub enum DlChannelReqAnswer {
     Read(DlChannelReqPayload),
     Refused(Refusal),
@@ -71,10 +71,10 @@ impl DlChannelReqPayload {
 }
 
 // Tells which parts of a DlChannelReq the device applied.
-#[derive(Drop)]
+#[derive(Clone, Copy)]
 pub struct DlChannelAnsPayload(pub u8);
 
-#[derive(Drop)]
+#[derive(Clone, Copy)]
 pub enum DlChannelAnsAnswer {
     Read(DlChannelAnsPayload),
     Refused(Refusal),

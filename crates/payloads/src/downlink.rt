@@ -15,7 +15,7 @@ use crate::rx_timing_setup::RXTimingSetupReqPayload;
 use crate::tx_param_setup::TXParamSetupReqPayload;
 
 // A command that the network sends.
-#[derive(Drop)]
+#[derive(Clone, Copy)]
 pub enum DownlinkMacCommand {
     LinkCheckAns(LinkCheckAnsPayload),
     LinkADRReq(LinkADRReqPayload),

@@ -9,10 +9,10 @@ ghost use Rattle.payloads.specs.Told.{told_duty_cycle_req};
 use table::Refusal;
 
 // Limits the part of the time in which the device may send.
-#[derive(Drop)]
+#[derive(Clone, Copy)]
 pub struct DutyCycleReqPayload(pub u8);
 
-#[derive(Drop)]
+#[derive(Clone, Copy)]
 pub enum DutyCycleReqAnswer {
     Read(DutyCycleReqPayload),
     Refused(Refusal),
@@ -70,7 +70,7 @@ impl DutyCycleReqPayload {
 }
 
 // Tells that a DutyCycleReq was received.
-#[derive(Drop)]
+#[derive(Clone, Copy)]
 pub struct DutyCycleAnsPayload();
 
 impl DutyCycleAnsPayload {

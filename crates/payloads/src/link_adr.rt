@@ -10,10 +10,10 @@ use fields::{ChannelMask2, Redundancy};
 use table::Refusal;
 
 // Sets the data rate, the power, the channels and the repetitions of the device.
-#[derive(Drop)]
+#[derive(Clone, Copy)]
 pub struct LinkADRReqPayload(pub u8, pub u8, pub u8, pub u8);
 
-#[derive(Drop)]
+#[derive(Clone, Copy)]
 pub enum LinkADRReqAnswer {
     Read(LinkADRReqPayload),
     Refused(Refusal),
@@ -90,10 +90,10 @@ impl LinkADRReqPayload {
 }
 
 // Tells which parts of a LinkADRReq the device applied.
-#[derive(Drop)]
+#[derive(Clone, Copy)]
 pub struct LinkADRAnsPayload(pub u8);
 
-#[derive(Drop)]
+#[derive(Clone, Copy)]
 pub enum LinkADRAnsAnswer {
     Read(LinkADRAnsPayload),
     Refused(Refusal),

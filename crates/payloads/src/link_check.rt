@@ -8,7 +8,7 @@ ghost use Rattle.payloads.specs.Told.{told_link_check_ans};
 use table::Refusal;
 
 // Asks the network whether it hears the device.
-#[derive(Drop)]
+#[derive(Clone, Copy)]
 pub struct LinkCheckReqPayload();
 
 impl LinkCheckReqPayload {
@@ -45,10 +45,10 @@ impl LinkCheckReqPayload {
 }
 
 // Tells how well the network heard the LinkCheckReq.
-#[derive(Drop)]
+#[derive(Clone, Copy)]
 pub struct LinkCheckAnsPayload(pub u8, pub u8);
 
-#[derive(Drop)]
+#[derive(Clone, Copy)]
 pub enum LinkCheckAnsAnswer {
     Read(LinkCheckAnsPayload),
     Refused(Refusal),

@@ -11,10 +11,10 @@ use fields::{DataRateRange, Frequency};
 use table::Refusal;
 
 // Makes or changes a channel.
-#[derive(Drop)]
+#[derive(Clone, Copy)]
 pub struct NewChannelReqPayload(pub u8, pub u8, pub u8, pub u8, pub u8);
 
-#[derive(Drop)]
+#[derive(Clone, Copy)]
 pub enum NewChannelReqAnswer {
     Read(NewChannelReqPayload),
     Refused(Refusal),
@@ -80,10 +80,10 @@ impl NewChannelReqPayload {
 }
 
 // Tells which parts of a NewChannelReq the device applied.
-#[derive(Drop)]
+#[derive(Clone, Copy)]
 pub struct NewChannelAnsPayload(pub u8);
 
-#[derive(Drop)]
+#[derive(Clone, Copy)]
 pub enum NewChannelAnsAnswer {
     Read(NewChannelAnsPayload),
     Refused(Refusal),

@@ -1,5 +1,5 @@
 // The payload of any command: the first len of the five bytes, of which those after it are 0.
-#[derive(Drop)]
+#[derive(Clone, Copy)]
 pub struct PayloadBytes {
     pub len: usize,
     pub bytes: [u8; 5],

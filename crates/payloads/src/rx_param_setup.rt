@@ -11,10 +11,10 @@ use fields::{DLSettings, Frequency};
 use table::Refusal;
 
 // Sets the receive windows of the device.
-#[derive(Drop)]
+#[derive(Clone, Copy)]
 pub struct RXParamSetupReqPayload(pub u8, pub u8, pub u8, pub u8);
 
-#[derive(Drop)]
+#[derive(Clone, Copy)]
 pub enum RXParamSetupReqAnswer {
     Read(RXParamSetupReqPayload),
     Refused(Refusal),
@@ -71,10 +71,10 @@ impl RXParamSetupReqPayload {
 }
 
 // Tells which parts of an RXParamSetupReq the device applied.
-#[derive(Drop)]
+#[derive(Clone, Copy)]
 pub struct RXParamSetupAnsPayload(pub u8);
 
-#[derive(Drop)]
+#[derive(Clone, Copy)]
 pub enum RXParamSetupAnsAnswer {
     Read(RXParamSetupAnsPayload),
     Refused(Refusal),

@@ -15,10 +15,10 @@ fn in_seconds(code: u8) -> u8
 }
 
 // Sets when the first receive window opens.
-#[derive(Drop)]
+#[derive(Clone, Copy)]
 pub struct RXTimingSetupReqPayload(pub u8);
 
-#[derive(Drop)]
+#[derive(Clone, Copy)]
 pub enum RXTimingSetupReqAnswer {
     Read(RXTimingSetupReqPayload),
     Refused(Refusal),
@@ -68,7 +68,7 @@ impl RXTimingSetupReqPayload {
 }
 
 // Tells that an RXTimingSetupReq was received.
-#[derive(Drop)]
+#[derive(Clone, Copy)]
 pub struct RXTimingSetupAnsPayload();
 
 impl RXTimingSetupAnsPayload {

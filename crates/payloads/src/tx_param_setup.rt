@@ -9,10 +9,10 @@ ghost use Rattle.payloads.specs.Told.{told_tx_param_setup_req};
 use table::Refusal;
 
 // Limits the dwell times and the power of the device.
-#[derive(Drop)]
+#[derive(Clone, Copy)]
 pub struct TXParamSetupReqPayload(pub u8);
 
-#[derive(Drop)]
+#[derive(Clone, Copy)]
 pub enum TXParamSetupReqAnswer {
     Read(TXParamSetupReqPayload),
     Refused(Refusal),
@@ -93,7 +93,7 @@ impl TXParamSetupReqPayload {
 }
 
 // Tells that a TXParamSetupReq was received.
-#[derive(Drop)]
+#[derive(Clone, Copy)]
 pub struct TXParamSetupAnsPayload();
 
 impl TXParamSetupAnsPayload {

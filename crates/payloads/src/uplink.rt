@@ -15,7 +15,7 @@ use crate::rx_timing_setup::RXTimingSetupAnsPayload;
 use crate::tx_param_setup::TXParamSetupAnsPayload;
 
 // A command that a device sends.
-#[derive(Drop)]
+#[derive(Clone, Copy)]
 pub enum UplinkMacCommand {
     LinkCheckReq(LinkCheckReqPayload),
     LinkADRAns(LinkADRAnsPayload),

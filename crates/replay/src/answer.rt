@@ -7,7 +7,7 @@ use table::Verdict;
 // No answer that is told by value has more bytes: one more is left out.
 const MOST: usize = 80;
 
-#[derive(Drop)]
+#[derive(Clone, Copy)]
 pub(crate) struct Answer {
     pub(crate) len: usize,
     pub(crate) bytes: [u8; 80],

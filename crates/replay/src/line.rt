@@ -1,7 +1,7 @@
 // A line of cases, read a byte at a time: ENTRY CLASS INPUT ANSWER [RUST], parted by one space, bytes in capital hex, `-` for none.
 
 // What is read of a line. Its bytes go to a lent buffer, one behind the other.
-#[derive(Drop)]
+#[derive(Clone, Copy)]
 pub(crate) struct Line {
     // The field that is being read.
     field: u8,
@@ -19,7 +19,7 @@ pub(crate) struct Line {
 
 // What a whole line asks. Of its bytes the entry is the first, the input stands from the third to this place, and the answer from there
 // to this one.
-#[derive(Drop)]
+#[derive(Clone, Copy)]
 pub(crate) enum Asked {
     Case { input: usize, answer: usize },
     Comment,

@@ -22,7 +22,7 @@ ghost use Rattle.std.specs.Prelude.{◌<◌};
 use libc::STDIN_FILENO;
 use line::{Asked, Line};
 
-#[derive(Drop)]
+#[derive(Clone, Copy)]
 struct Totals {
     agree: u64,
     differ: u64,
@@ -107,7 +107,7 @@ fn whole_line(line: Line, bytes: &[u8], out: &mut [u8], totals: Totals) -> Total
 }
 
 // What is carried from one part of the input to the next.
-#[derive(Drop)]
+#[derive(Clone, Copy)]
 struct State {
     line: Line,
     totals: Totals,

@@ -6,7 +6,7 @@ use mathlib.Core.List.{List, [], ◌∷◌}
 use mathlib.Core.Option.{Option, none, some}
 use native.Mathlib.Omega.{arith}
 use lib.Dec.{eqb, lit≤}
-use borrow.Author.Tests.{eqb_true}
+use borrow.Author.Tests.{eqb-true}
 use Rattle.table.specs.declared.rules.Direction.{Direction}
 use Rattle.table.specs.declared.rules.Direction.TheVariants.{Down, Up}
 use Rattle.table.specs.declared.rules.Rules.{Rules}
@@ -47,7 +47,7 @@ cid_within (r ∷ rs) w d c n e = by (eqb c r.cid) refl (cid_within rs w.2 d c n
   where
     by : (t : Bool) → eqb c r.cid ≡ t → (length_in rs d c ≡ some n → (2 ≤ c) × (c < 256))
         → cond t (some (side_of d r.bytes_down r.bytes_up)) (length_in rs d c) ≡ some n → (2 ≤ c) × (c < 256)
-    by true q ih e = let same = eqb_true c r.cid q in (omega (arith, w.0), omega (arith, w.1))
+    by true q ih e = let same = eqb-true c r.cid q in (omega (arith, w.0), omega (arith, w.1))
     by false q ih e = ih e
 
 pub cid_from_two : (rules : Rules) (c n : ℕ) → length_of rules c ≡ some n → (2 ≤ c) × (c < 256)

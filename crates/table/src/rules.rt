@@ -3,20 +3,20 @@ ghost use Rattle.std.specs.Prelude.{◌≡◌};
 ghost use Rattle.table.specs.Table.{side_of, length_of};
 ghost use Rattle.table.specs.Told.{told_length};
 
-#[derive(Drop)]
+#[derive(Clone, Copy)]
 pub enum Direction {
     Down,
     Up,
 }
 
 // The book of rules that a stream is read and written by: the table's commands of one direction.
-#[derive(Drop)]
+#[derive(Clone, Copy)]
 pub struct Rules {
     pub direction: Direction,
 }
 
 // The payload bytes that follow a CID, or that the byte is no CID.
-#[derive(Drop)]
+#[derive(Clone, Copy)]
 pub enum Length {
     Unknown,
     Known(usize),

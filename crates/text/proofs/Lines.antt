@@ -6,7 +6,7 @@ use mathlib.Core.Path.{◌≡◌, refl, sym, ap₂, ap, ◌∙◌, subst}
 use native.Mathlib.Omega.{arith}
 use lib.Dec.{eqb, leb}
 use lib.ListN.{length, length-append}
-use borrow.Author.Tests.{eqb_true, eqb-false, leb-true}
+use borrow.Author.Tests.{eqb-true, eqb-false, leb-true}
 use Rattle.bits.specs.Every.{Every}
 use Rattle.text.specs.Lines.{Line, joined, line, text, Plain, PlainLine, PlainText, Ended}
 
@@ -94,9 +94,9 @@ Parted t = (ls : List Line) × (PlainText ls × (text ls ≡ t))
 in-front : (c : ℕ) (l : Line) (ls : List Line) → PlainText (l ∷ ls) → (b d : Bool) → eqb c 10 ≡ b → eqb c 9 ≡ d → Parted (c ∷ text (l ∷ ls))
 unfolding text joined
 in-front c l ls p true d n t =
-    (record { first = []; more = [] } ∷ l ∷ ls, (((tt, tt), p), ap (λ (x : ℕ). x ∷ text (l ∷ ls)) (sym (eqb_true c 10 n))))
+    (record { first = []; more = [] } ∷ l ∷ ls, (((tt, tt), p), ap (λ (x : ℕ). x ∷ text (l ∷ ls)) (sym (eqb-true c 10 n))))
 in-front c l ls p false true n t =
-    (record { first = []; more = l.first ∷ l.more } ∷ ls, (((tt, p.0), p.1), ap (λ (x : ℕ). x ∷ text (l ∷ ls)) (sym (eqb_true c 9 t))))
+    (record { first = []; more = l.first ∷ l.more } ∷ ls, (((tt, p.0), p.1), ap (λ (x : ℕ). x ∷ text (l ∷ ls)) (sym (eqb-true c 9 t))))
 in-front c l ls p false false n t =
     let plain : PlainLine (record { first = c ∷ l.first; more = l.more }) = ((eqb-false c 9 t, eqb-false c 10 n, p.0.0), p.0.1) in
     (record { first = c ∷ l.first; more = l.more } ∷ ls, ((plain, p.1), ap (λ (x : List ℕ). x ++ text ls) (longer l.first l.more)))

@@ -10,7 +10,7 @@ use native.Mathlib.Omega.{arith}
 use lib.Dec.{eqb}
 use lib.ListN.{length, get_or, take, drop}
 use lib.Seq.{drop-cons, drop-drop, take_at}
-use borrow.Author.Tests.{eqb_true}
+use borrow.Author.Tests.{eqb-true}
 use Rattle.table.specs.Answers.{Answer, given, refused}
 use Rattle.table.specs.declared.rules.Direction.{Direction}
 use Rattle.table.specs.Table.{Row, length_in}
@@ -111,6 +111,6 @@ taken false m n x p q = let no_way : ◌≡◌ {A = ℕ} 0 1 = cc in absurd (ome
 
 pub row_left : (k : ℕ) (rs : List Row) (d : Direction) (c n : ℕ) → length_in (without k rs) d c ≡ none → length_in rs d c ≡ some n → c ≡ cid_of k rs
 row_left k [] d c n p q = let no_way : ◌≡◌ {A = ℕ} 0 1 = cc in absurd (omega arith)
-row_left zero (r ∷ rs) d c n p q = eqb_true c r.cid (taken (eqb c r.cid) _ n (length_in rs d c) p q)
+row_left zero (r ∷ rs) d c n p q = eqb-true c r.cid (taken (eqb c r.cid) _ n (length_in rs d c) p q)
 row_left (suc k) (r ∷ rs) d c n p q =
     let t = apart (eqb c r.cid) _ n (length_in (without k rs) d c) (length_in rs d c) p q in row_left k rs d c n t.0 t.1

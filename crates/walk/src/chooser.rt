@@ -7,7 +7,7 @@ ghost use Rattle.walk.specs.Told.{told_port};
 use table::{Refusal, Verdict};
 
 // A frame's port. A frame may have none.
-#[derive(Drop)]
+#[derive(Clone, Copy)]
 pub enum Port {
     None,
     Number(u8),

@@ -23,7 +23,7 @@ use payloads::{
 use table::{Direction, Refusal, Rules, Verdict};
 
 // What stands at an offset of a stream that a device sent. A command comes with the offset behind it.
-#[derive(Drop)]
+#[derive(Clone, Copy)]
 pub enum UplinkStep {
     End,
     Command(UplinkMacCommand, usize),
@@ -32,7 +32,7 @@ pub enum UplinkStep {
 }
 
 // What stands at an offset of a stream that a device is sent. A command comes with the offset behind it.
-#[derive(Drop)]
+#[derive(Clone, Copy)]
 pub enum DownlinkStep {
     End,
     Command(DownlinkMacCommand, usize),
@@ -42,13 +42,13 @@ pub enum DownlinkStep {
 
 // ---- Bytes of the stream from an offset on.
 
-#[derive(Drop)]
+#[derive(Clone, Copy)]
 struct Two(u8, u8);
 
-#[derive(Drop)]
+#[derive(Clone, Copy)]
 struct Four(u8, u8, u8, u8);
 
-#[derive(Drop)]
+#[derive(Clone, Copy)]
 struct Five(u8, u8, u8, u8, u8);
 
 fn two_at(stream: &[u8], at: usize) -> Two

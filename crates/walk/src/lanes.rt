@@ -8,14 +8,14 @@ use crate::step::{Step, step_at};
 use table::{Length, Rules};
 
 // How far a walk has come: the offset where it stands, and the number of commands handed out.
-#[derive(Drop)]
+#[derive(Clone, Copy)]
 pub(crate) struct Way {
     pub(crate) at: usize,
     pub(crate) count: usize,
 }
 
 // Three lanes, each as many commands behind its beginning.
-#[derive(Drop)]
+#[derive(Clone, Copy)]
 struct Lanes {
     first: usize,
     second: usize,
@@ -24,7 +24,7 @@ struct Lanes {
 }
 
 // The offset behind one command or more, if they stand there.
-#[derive(Drop)]
+#[derive(Clone, Copy)]
 enum Onward {
     To(usize),
     Nowhere,

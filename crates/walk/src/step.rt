@@ -8,7 +8,7 @@ ghost use Rattle.walk.specs.Told.{told_step};
 use table::{Length, Refusal, Rules};
 
 // What stands at an offset of a stream.
-#[derive(Drop)]
+#[derive(Clone, Copy)]
 pub enum Step {
     // The stream's end.
     End,

@@ -9,7 +9,7 @@ use crate::step::{Step, step_at};
 use table::{Refusal, Rules};
 
 // How a walk ends, and at which offset.
-#[derive(Drop)]
+#[derive(Clone, Copy)]
 pub enum Outcome {
     End(usize),
     Stop { reason: Refusal, at: usize },
@@ -17,7 +17,7 @@ pub enum Outcome {
     Refused(Refusal),
 }
 
-#[derive(Drop)]
+#[derive(Clone, Copy)]
 pub struct WalkEnd {
     pub outcome: Outcome,
     // The number of commands handed out.

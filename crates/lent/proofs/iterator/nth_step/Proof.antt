@@ -35,7 +35,7 @@ use denote.RattleType.{RattleType, owns}
 use denote.Laws.{Is, shows}
 use denote.Builtin.{u8, usize}
 use denote.Plain.{uint_vals, uint_Tells}
-use denote.Memory.{pointee, mem, cell_at, part_of}
+use denote.Memory.{pointee, mem, cell_at, partOf}
 use denote.Ref.{Bor, MutBor, NamedLft, MutRef}
 use denote.Signature.{plain}
 use denote.Slice.{slice_ty, slice_val, ShrSlice, shr_slice_vals, shr_slice_Tells, shr_slice_Lawful, shr_slice_copy}
@@ -184,7 +184,7 @@ module _ {M : Type 1} {𝓤 : Ura M} (𝓛 : Logic 𝓤) (mem' : Memory → SPro
 
   -- what lies in the iterator's local
   lies_in : (l : ℕ) (d : MacCommandIterator) (z : Val) → ent 𝓤 (⋆ 𝓛 (‵ (fat full_share (T'.mir erased) l 0 z) ∷ ‵ ((It κ).own d (z ∷ [])) ∷ [])) (sem 𝓛 ((mem (It κ)).own_at d l 0))
-  unfolding part_of
+  unfolding partOf
   lies_in l d z =
       qed 𝓛 (‵ (fat full_share (T'.mir erased) l 0 z) ∷ ‵ ((It κ).own d (z ∷ [])) ∷ []) ∵ use1 𝓛 (‵ (cell_at full_share (It κ).mir (z ∷ []) l 0)) (𝓛.laws.at_raw full_share (T'.mir erased) l 0 z) $
       fjoin ! $ fpack ! (List Val) (λ us. fsep (cell_at full_share (It κ).mir us l 0) ((It κ).own d us)) (z ∷ []) $ done !
@@ -229,7 +229,7 @@ module _ {M : Type 1} {𝓤 : Ura M} (𝓛 : Logic 𝓤) (mem' : Memory → SPro
 
       -- the turn that leaves the loop, and the rest of the body
       ends : (t : St many) → ltb t.i many ≡ false → Sq 𝓛 (At t) (runs C Λ En mir.turn-1 (any_q (Turned t)))
-      unfolding after_turn part_of
+      unfolding after_turn partOf
       ends t out =
           assigns ! (bin ! (load ! (from ! (stop !)) (look ! 15 refl)) (load ! (from ! (stop !)) (look ! 18 refl)) tt) (from ! (stop !)) (init ! 9 refl (tt, tt)) $
           rewrite ! 9 (λ (z : Bool). ‵ (fat full_share ty_bool l₉ 0 (vbool z))) out refl $

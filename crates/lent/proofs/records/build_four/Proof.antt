@@ -25,7 +25,7 @@ use types.Tokens.{lft_new, lft_end, lent_back}
 use sound.WpLaws.{FmC, fm_of, WpFn-mono}
 use denote.RattleType.{RattleType, owns}
 use denote.Laws.{Is, Tells, shows}
-use denote.Memory.{pointee, shares, cell_at, part_at, part_of}
+use denote.Memory.{pointee, shares, cell_at, part_at, partOf}
 use denote.Array.{Array, array_vals, Array-Tells, Array-Typed, array_copy}
 use denote.ArrayMemory.{Array-apart, Array-whole}
 use denote.Lend.{lends_shr_slice}
@@ -115,7 +115,7 @@ module _ {M : Type 1} {𝓤 : Ura M} (𝓛 : Logic 𝓤) (mem : Memory → SProp
 
   -- what lies in the array's local
   lies_in : (l : ℕ) → ent 𝓤 (⋆ 𝓛 (‵ (fat full_share (ty_array T'.mir 4) l 0 v) ∷ ‵ Own ∷ [])) (sem 𝓛 (part_at F full_share ys l 0))
-  unfolding part_of
+  unfolding partOf
   lies_in l =
       qed 𝓛 (‵ (fat full_share (ty_array T'.mir 4) l 0 v) ∷ ‵ Own ∷ []) ∵ use1 𝓛 (‵ (cell_at full_share F.mir (v ∷ []) l 0)) (𝓛.laws.at_raw full_share (ty_array T'.mir 4) l 0 v) $
       fjoin ! $ fpack ! (List Val) (λ us. fsep (cell_at full_share F.mir us l 0) (F.own ys us)) (v ∷ []) $ done !
@@ -125,7 +125,7 @@ module _ {M : Type 1} {𝓤 : Ura M} (𝓛 : Logic 𝓤) (mem : Memory → SProp
 
   module _ (C : Calls 𝓤 H) (Λ : Loops 𝓤 H) (fm : FmC 𝓤 H 𝓛.laws C) (builds : Triple 𝓤 (C #build-records) (Met 𝓛 build_records.ended (build_records.clauses 𝓛 mem run))) where
     walk : Is F ys (v ∷ []) → Room T.the_row (length ys) → length ys ≡ 4 → ent 𝓤 (on_entry 𝓛 build_four.signature (κ, tt) (q, tt) (rules, (ys, (out, tt))) at) (WpFn 𝓤 H C Λ code.function (u ∷ v ∷ w ∷ []) Post)
-    unfolding part_of
+    unfolding partOf
     walk p room four =
         qed 𝓛 ((‵ (flft κ q) ⊛ ‵ ftrue) ∷ ‵ (owns (R.the_row ∷ F ∷ MutSlice (named 0) κ u8 ∷ []) (rules, (ys, (out, tt))) at) ∷ []) ∵ enter ! C Λ code.function (u ∷ v ∷ w ∷ []) _ $
         alloc1 ! (λ l₀. alloc1 ! (λ l₁. alloc1 ! (λ l₂. alloc1 ! (λ l₃. alloc1 ! (λ l₄. alloc1 ! (λ l₅. alloc1 ! (λ l₆. alloc1 ! (λ l₇. alloc1 ! (λ l₈. alloc0 ! $ params1 ! $
