@@ -51,8 +51,8 @@ module _ (L : Rule) (s : List ℕ) (frame : ℕ) where
       ∙ ap (record_found frame at) (sym t.1)
 
   -- a step that is no command
-  pub no_record : (at : ℕ) (y : Answer (Found Heading)) → step_at L s at ≡ y → is_command y ≡ false → no_record ≡ record_found frame at (found_at L s at)
-  no_record at y p n = by (found_at L s at) (ap is_command p ∙ n)
+  pub no_record_is : (at : ℕ) (y : Answer (Found Heading)) → step_at L s at ≡ y → is_command y ≡ false → no_record ≡ record_found frame at (found_at L s at)
+  no_record_is at y p n = by (found_at L s at) (ap is_command p ∙ n)
     where
       by : (x : Answer (Found Cmd)) → is_command (in_numbers x) ≡ false → no_record ≡ record_found frame at x
       by (given (command c next)) e = let z : ◌≡◌ {A = ℕ} 0 1 = cc in absurd (omega arith)

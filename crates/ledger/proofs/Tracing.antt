@@ -66,10 +66,10 @@ off_newline : (s : List ℕ) → Plain s → Off 10 s
 off_newline [] p = tt
 off_newline (c ∷ s) p = (p.1, off_newline s p.2)
 
-up_to : (c : ℕ) (f t : List ℕ) → Off c f → up_to c (f ++ (c ∷ t)) ≡ f
+up_to_is : (c : ℕ) (f t : List ℕ) → Off c f → up_to c (f ++ (c ∷ t)) ≡ f
 unfolding up_to
-up_to c [] t p = rw (eq-eqb c c refl)
-up_to c (d ∷ f) t p = rw (ne_eqb d c p.0, up_to c f t p.1)
+up_to_is c [] t p = rw (eq-eqb c c refl)
+up_to_is c (d ∷ f) t p = rw (ne_eqb d c p.0, up_to_is c f t p.1)
 
 past : (c : ℕ) (f t : List ℕ) → Off c f → behind c (f ++ (c ∷ t)) ≡ t
 unfolding behind
@@ -113,9 +113,9 @@ likely_back l t =
     let second : behind 9 (behind 9 (f ++ (9 ∷ (g ++ (9 ∷ u))))) ≡ u = ap (behind 9) first ∙ past 9 g u q in
     ap likely (written_parts l t)
     ∙ same_line (likely (f ++ (9 ∷ (g ++ (9 ∷ u))))) l
-    (ap value_of (up_to 9 f (g ++ (9 ∷ u)) p) ∙ value_decimal l.frame)
-    (ap direction_of (ap (up_to 9) first ∙ up_to 9 g u q) ∙ direction_back l.direction)
-    (ap bytes_of (ap (up_to 10) second ∙ up_to 10 h t r) ∙ field_back l.stream)
+    (ap value_of (up_to_is 9 f (g ++ (9 ∷ u)) p) ∙ value_decimal l.frame)
+    (ap direction_of (ap (up_to 9) first ∙ up_to_is 9 g u q) ∙ direction_back l.direction)
+    (ap bytes_of (ap (up_to 10) second ∙ up_to_is 10 h t r) ∙ field_back l.stream)
 
 -- ---- the tests
 
@@ -123,10 +123,10 @@ pub both : (a b : Bool) → a && b ≡ true → (a ≡ true) × (b ≡ true)
 both true b e = (refl, e)
 both false b e = let no_way : ◌≡◌ {A = ℕ} 0 1 = cc in absurd (omega arith)
 
-all_bytes : (s : List ℕ) → Every Byte s → all_bytes s ≡ true
+all_bytes_is : (s : List ℕ) → Every Byte s → all_bytes s ≡ true
 unfolding all_bytes
-all_bytes [] h = refl
-all_bytes (b ∷ s) h = rw (lt-ltb b 256 h.0, all_bytes s h.1)
+all_bytes_is [] h = refl
+all_bytes_is (b ∷ s) h = rw (lt-ltb b 256 h.0, all_bytes_is s h.1)
 
 bytes_all : (s : List ℕ) → all_bytes s ≡ true → Every Byte s
 unfolding all_bytes
@@ -135,7 +135,7 @@ bytes_all (b ∷ s) e = let h = both (ltb b 256) (all_bytes s) e in (ltb-true b 
 
 lawful_test : (l : TraceLine) → Lawful l → is_lawful l ≡ true
 lawful_test l h =
-    rw (lt-ltb l.frame 4_294_967_296 h.frame, lt-ltb (length l.stream) 256 h.size, all_bytes l.stream h.bytes)
+    rw (lt-ltb l.frame 4_294_967_296 h.frame, lt-ltb (length l.stream) 256 h.size, all_bytes_is l.stream h.bytes)
 
 test_lawful : (l : TraceLine) → is_lawful l ≡ true → Lawful l
 test_lawful l e =

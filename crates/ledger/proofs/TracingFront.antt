@@ -27,7 +27,7 @@ use Rattle.ledger.specs.Working.{with_next, front_at}
 use Rattle.ledger.proofs.Tracing.{written_parts, begins_rest, front_written, front_read, both, taken}
 use Rattle.ledger.proofs.TracingSteps.{
   digit_is,
-  digit_in,
+  digit_in_is,
   digits_more,
   digits_other,
   IsHex,
@@ -63,7 +63,7 @@ unfolding value_from
 digits_back v [] t h g = digits_other v 9 t (omega arith)
 digits_back v (c ∷ s) t h g =
     let m = value_grows (v * 10 + (c - 48)) s in
-    let e = digit_in c h.0 in
+    let e = digit_in_is c h.0 in
     let u = h.0.1 in
     digits_more v c (s ++ (9 ∷ t)) (omega arith) (omega arith)
     ∙ ap (λ (x : ℕ). c ∷ digits_in (v * 10 + x) (s ++ (9 ∷ t))) e

@@ -56,8 +56,8 @@ digit_is c h = by (ltb c 48) (ltb c 58) refl refl h
     by false true e f h = let l = ltb-false c 48 e in let u = ltb-true c 58 f in record { value = rw (e, f); form = (l, omega arith) }
     by false false e f h = absurd (omega arith)
 
-pub digit_in : (c : ℕ) → Digit c → digit_in c ≡ c - 48
-digit_in c h = let l = h.0 in let u = h.1 in rw (le-ltb c 48 l, lt-ltb c 58 (omega arith))
+pub digit_in_is : (c : ℕ) → Digit c → digit_in c ≡ c - 48
+digit_in_is c h = let l = h.0 in let u = h.1 in rw (le-ltb c 48 l, lt-ltb c 58 (omega arith))
 
 pub digits_more : (v c : ℕ) (t : List ℕ) → v ≤ 429_496_729 → digit_in c < 10 → digits_in v (c ∷ t) ≡ c ∷ digits_in (v * 10 + digit_in c) t
 unfolding digits_in

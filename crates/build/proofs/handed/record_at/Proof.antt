@@ -7,7 +7,7 @@ use Rattle.table.specs.Table.{length_of}
 use Rattle.walk.specs.Step.{command, heading, step_at}
 use Rattle.walk.specs.Told.{told_step}
 use Rattle.walk.proofs.Steps.{step_on}
-use Rattle.build.proofs.AsRecords.{command_record, no_record}
+use Rattle.build.proofs.AsRecords.{command_record, no_record_is}
 use Rattle.build.proofs.handed.record_at.Statement.{statement}
 use Rattle.build.proofs.handed.record_at.Tie as tie
 
@@ -31,21 +31,21 @@ returns-2 c =
     let a = c.before.before.before.before.before.args in
     let s = c.before.before.before.step-at.ensures in
     ap₂ (λ x r. (x, r)) s
-    (c.none.ensures ∙ no_record (length_of a.rules) a.stream.now a.frame a.at _ (sym s ∙ ap told_step c.before.enum_told.given.1) refl)
+    (c.none.ensures ∙ no_record_is (length_of a.rules) a.stream.now a.frame a.at _ (sym s ∙ ap told_step c.before.enum_told.given.1) refl)
 
 returns-3 : tie.Need-returns-3
 returns-3 c =
     let a = c.before.before.before.before.before.args in
     let s = c.before.before.before.step-at.ensures in
     ap₂ (λ x r. (x, r)) s
-    (c.none2.ensures ∙ no_record (length_of a.rules) a.stream.now a.frame a.at _ (sym s ∙ ap told_step c.before.enum-told2.given.1) refl)
+    (c.none2.ensures ∙ no_record_is (length_of a.rules) a.stream.now a.frame a.at _ (sym s ∙ ap told_step c.before.enum-told2.given.1) refl)
 
 returns-4 : tie.Need-returns-4
 returns-4 c =
     let a = c.before.before.before.before.before.args in
     let s = c.before.before.before.step-at.ensures in
     ap₂ (λ x r. (x, r)) s
-    (c.none3.ensures ∙ no_record (length_of a.rules) a.stream.now a.frame a.at _ (sym s ∙ ap told_step c.before.enum-told3.given.1) refl)
+    (c.none3.ensures ∙ no_record_is (length_of a.rules) a.stream.now a.frame a.at _ (sym s ∙ ap told_step c.before.enum-told3.given.1) refl)
 
 pub record_at_spec : {M : Type 1} → statement M
 record_at_spec =
