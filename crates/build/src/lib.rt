@@ -1,4 +1,6 @@
 // Commands as records: those that a walk hands out, and what is built of any, the total and the bytes in order.
+#![tactic(auto)]
+
 pub mod handed;
 pub mod packed;
 pub mod record;

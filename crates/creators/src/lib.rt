@@ -1,4 +1,6 @@
 // The creators: twenty images of CID and payload with their setters, and the two kinds that a list of commands is made of.
+#![tactic(auto)]
+
 pub mod dev_status;
 pub mod device_time;
 pub mod dl_channel;

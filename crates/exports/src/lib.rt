@@ -1,5 +1,7 @@
 // What a program in C or Rust links: the walk, its listing, its entries and the jump by them, and the build down, each behind one function of slices
 // and numbers.
+#![tactic(auto)]
+
 pub mod jump;
 pub mod listing;
 pub mod records;

@@ -1,4 +1,6 @@
 // The small fields: three settings of one byte, the frequency, and the channel mask at two widths.
+#![tactic(auto)]
+
 pub mod channel_mask;
 pub mod data_rate_range;
 pub mod dl_settings;

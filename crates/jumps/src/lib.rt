@@ -1,4 +1,6 @@
 // To jump to a command of a long stream (RULES: J): entries, which are offsets of commands sixteen apart, and steps from the one that covers it.
+#![tactic(auto)]
+
 pub mod entries;
 pub mod jump;
 

@@ -1,4 +1,6 @@
 // The ledger of parents (RULES: X1 to X17): a recorded exchange is replayed, and for each radio setting the request that set it is known.
+#![tactic(auto)]
+
 mod commands;
 pub mod entries;
 pub mod exchange;

@@ -1,4 +1,6 @@
 // The two forms over lent structs: an iterator that holds its stream, and the build over a slice of records.
+#![tactic(auto)]
+
 pub mod iterator;
 pub mod records;
 

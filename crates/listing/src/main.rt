@@ -1,5 +1,7 @@
 // Prints the listing of a capture, in frame 0 (RULES: L10). Standard input holds a letter, U or D, and then the bytes of a stream, at most 1,024. Any
 // other input, and one that can't be read, gets the line "bad input".
+#![tactic(auto)]
+
 ghost use Rattle.std.specs.Prelude.{◌≡◌, ◌≤◌, length};
 ghost use Rattle.io.specs.Counts.{IsPrefixLen};
 ghost use Rattle.listings.specs.Listing.{listing_of};

@@ -1,5 +1,7 @@
 // The listing of a walk in a frame, written into lent memory (RULES: L1 to L9, L13). The text's length is measured first, and then, where there is
 // room for all of it, it is written line by line.
+#![tactic(auto)]
+
 use table::Refusal;
 
 mod line;

@@ -1,4 +1,6 @@
 // The payload of each command as a type of its own, with the readers of its fields, and the commands of each direction.
+#![tactic(auto)]
+
 pub mod dev_status;
 pub mod device_time;
 pub mod dl_channel;

@@ -1,5 +1,7 @@
 // Replays cases that the oracle wrote, from standard input (docs/ORACLE.md has their form): asks the port, and compares every byte of
 // its answer with the line's. Prints each case that differs, with both answers, and a summary.
+#![tactic(auto)]
+
 mod answer;
 mod creators_down;
 mod creators_up;

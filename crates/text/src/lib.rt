@@ -1,5 +1,7 @@
 // Texts in lent memory: numbers, bytes in hex, names. Each writer takes an offset to write at, and answers the offset where its text ends. Where not
 // all of the text has room, it writes none of it and answers the offset that it was given.
+#![tactic(auto)]
+
 pub mod decimal;
 pub mod hex;
 pub mod names;

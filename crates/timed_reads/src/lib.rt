@@ -1,5 +1,7 @@
 // What is there to be timed beside the Rust (tools/bench), and no host links: streams that are read, each in one function of slices and
 // numbers.
+#![tactic(auto)]
+
 pub mod every_field;
 pub mod iterator;
 

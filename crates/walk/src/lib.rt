@@ -1,4 +1,6 @@
 // A stream of MAC commands, taken apart: one step, the whole walk, and where in a frame the stream is.
+#![tactic(auto)]
+
 pub mod chooser;
 pub mod command;
 mod lanes;

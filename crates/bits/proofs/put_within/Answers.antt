@@ -13,5 +13,5 @@ overflow_cast-result-2 c =
     let a = c.args in
     record {
       fits = rw (sum a.lo a.width a.b a.v _ _ c.pow2-l.ensures c.pow2-h.ensures)
-      (put_stays a.lo a.width a.b a.v c.requires.v_bound 8 c.requires.lo_bound (omega arith))
+          (put_stays a.lo a.width a.b a.v c.requires.v_bound 8 c.requires.lo_bound (omega arith));
     }
