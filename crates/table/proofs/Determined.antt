@@ -1,8 +1,7 @@
 -- Any two outcomes that a public function's contract admits are equal. `Post` is what the check reads of the contract. Assumes nothing.
-use mathlib.Core.Path.{◌≡◌, sym, ap, ◌∙◌}
+use mathlib.Core.Path.{sym, ap, ◌∙◌}
 use Rattle.bits.proofs.Fixed.{Fixed}
 use Rattle.table.specs.declared.rules.Direction.{Direction}
-use Rattle.table.specs.declared.rules.Rules.{Rules}
 use Rattle.table.proofs.Told.{length_tells}
 use Rattle.table.proofs.refusal.Refusal.number.Reads as number
 use Rattle.table.proofs.rules.Rules.new.Reads as new
