@@ -7,9 +7,7 @@ use lib.Dec.{T, eqb}
 use lib.Ieee.{binary32, hid, ones, top, of_bits, nan_bits}
 use Rattle.payloads.specs.Meanings.{one_over2_to}
 use Rattle.bits.proofs.Each.{Each, each}
-use borrow.Author.Rules.{rules}
-use Rattle.payloads.proofs.duty_cycle.DutyCycleReqPayload.max_duty_cycle.Statement.{statement}
-use Rattle.payloads.proofs.duty_cycle.DutyCycleReqPayload.max_duty_cycle.Tie as tie
+use Rattle.payloads.proofs.duty_cycle.DutyCycleReqPayload.max_duty_cycle.Goals as goal
 
 Exact : ℕ → Type 0
 Exact n = of_bits binary32 ((127 - n) * 2 ^ 23 % 2 ^ 32) ≡ one_over2_to n
@@ -19,6 +17,7 @@ unfolding Exact of_bits
 exact = (refl, (refl, (refl, (refl, (refl, (refl, (refl, (refl, (refl, (refl, (refl, (refl, (refl, (refl, (refl, (refl, tt))))))))))))))))
 
 -- with a fraction of zeros it is no NaN, whatever stands above it
+
 no_nan : (above : ℕ) → T (not (nan_bits binary32 (above * 2 ^ 23 % 2 ^ 32)))
 unfolding nan_bits
 no_nan above =
@@ -29,16 +28,11 @@ no_nan above =
     none true = tt
     none false = tt
 
-float-from-bits-result : tie.Need-float-from-bits-result
-float-from-bits-result c = no_nan _
+pub float_from_bits-result : goal.float_from_bits-result
+float_from_bits-result c = no_nan _
 
-returns : tie.Need-returns
+pub returns : goal.returns
 unfolding Exact
 returns c =
     let read = c.max_duty_cycle_raw.ensures in
     each Exact 16 c.max_duty_cycle_raw.result exact (omega arith) ∙ ap one_over2_to read
-
-pub max_duty_cycle_spec : {M : Type 1} → statement M
-max_duty_cycle_spec =
-    tie.close
-    (tie.spec (λ c κs. search rules) (λ c. search rules) (λ c. search rules) float-from-bits-result returns)
