@@ -9,7 +9,6 @@ use Rattle.table.specs.declared.rules.Rules.{Rules}
 use Rattle.table.specs.Table.{length_of}
 use Rattle.table.proofs.Lengths.{at_most_five}
 use Rattle.walk.specs.declared.lanes.Onward.{Onward}
-use Rattle.walk.specs.declared.lanes.Onward.TheVariants as Onward
 use Rattle.walk.specs.Lanes.{Leads, Within, Comes}
 use Rattle.walk.specs.Walk.{Rule}
 use Rattle.walk.proofs.Steps.{step_command, leads_behind}

@@ -9,16 +9,12 @@ use Rattle.payloads.specs.declared.uplink.UplinkMacCommand.{UplinkMacCommand}
 use Rattle.payloads.specs.declared.downlink.DownlinkMacCommand.{DownlinkMacCommand}
 use Rattle.payloads.proofs.Told.{uplink_of, uplink-back, downlink_of, downlink-back}
 use Rattle.walk.specs.declared.command.UplinkStep.{UplinkStep}
-use Rattle.walk.specs.declared.command.UplinkStep.TheVariants as UplinkStep
 use Rattle.walk.specs.declared.command.DownlinkStep.{DownlinkStep}
-use Rattle.walk.specs.declared.command.DownlinkStep.TheVariants as DownlinkStep
 use Rattle.walk.specs.declared.step.Step.{Step}
-use Rattle.walk.specs.declared.step.Step.TheVariants as Step
 use Rattle.walk.specs.declared.whole.Outcome.{Outcome}
-use Rattle.walk.specs.declared.whole.Outcome.TheVariants as Outcome
 use Rattle.walk.specs.declared.whole.WalkEnd.{WalkEnd}
 use Rattle.walk.specs.Command.{uplink_cmd, downlink_cmd}
-use Rattle.walk.specs.Step.{Found, ended, command, stopped, Heading, retold}
+use Rattle.walk.specs.Step.{Found, ended, command, stopped, retold}
 use Rattle.walk.specs.Told.{told_step, uplink_found, told_uplink_step, downlink_found, told_downlink_step, told_outcome, told_walk}
 use Rattle.walk.specs.Walk.{Cmd, Ending, end, stop}
 

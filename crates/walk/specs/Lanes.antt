@@ -2,7 +2,6 @@
 use Rattle.std.specs.Prelude.{ℕ, ◌+◌, ◌≤◌, List, ◌≡◌, length}
 use Rattle.table.specs.Answers.{Answer}
 use Rattle.walk.specs.declared.lanes.Onward.{Onward}
-use Rattle.walk.specs.declared.lanes.Onward.TheVariants as Onward
 use Rattle.walk.specs.Step.{tally_from}
 use Rattle.walk.specs.Walk.{Rule, Ending}
 

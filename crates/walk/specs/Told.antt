@@ -6,15 +6,10 @@ use Rattle.table.specs.Refusals.{number_of}
 use Rattle.payloads.specs.declared.uplink.UplinkMacCommand.{UplinkMacCommand}
 use Rattle.payloads.specs.declared.downlink.DownlinkMacCommand.{DownlinkMacCommand}
 use Rattle.walk.specs.declared.chooser.Port.{Port}
-use Rattle.walk.specs.declared.chooser.Port.TheVariants as Port
 use Rattle.walk.specs.declared.command.UplinkStep.{UplinkStep}
-use Rattle.walk.specs.declared.command.UplinkStep.TheVariants as UplinkStep
 use Rattle.walk.specs.declared.command.DownlinkStep.{DownlinkStep}
-use Rattle.walk.specs.declared.command.DownlinkStep.TheVariants as DownlinkStep
 use Rattle.walk.specs.declared.step.Step.{Step}
-use Rattle.walk.specs.declared.step.Step.TheVariants as Step
 use Rattle.walk.specs.declared.whole.Outcome.{Outcome}
-use Rattle.walk.specs.declared.whole.Outcome.TheVariants as Outcome
 use Rattle.walk.specs.declared.whole.WalkEnd.{WalkEnd}
 use Rattle.walk.specs.Command.{uplink_cmd, downlink_cmd}
 use Rattle.walk.specs.Walk.{Cmd, Ending, end, stop}
