@@ -17,7 +17,7 @@ channels_at-requires c =
     omega (arith, counted_four c.args.rules c.args.cid c.args.len (sym c.is_counted.ensures ∙ c.if-is_counted.true) c.requires.known)
 
 pub overflow_add-result : goal.overflow_add-result
-overflow_add-result c = let e = c.decimal_len.ensures in omega (arith, digits_few c.channels_at.result c.channels_at.type-inv)
+overflow_add-result c = let e = c.decimal_len.ensures in omega (arith, digits_few c.channels_at.result c.channels_at.type_inv)
 
 pub returns-then-is_counted : goal.returns-then-is_counted
 returns-then-is_counted c =

@@ -35,19 +35,17 @@ pub overflow_add-result-4 : goal.overflow_add-result-4
 overflow_add-result-4 c = omega (arith, few (goal.at.overflow_add-result-4 c).After-behind_len-rest)
 
 pub returns-clause-value : goal.returns-clause-value
-returns-clause-value c =
-    let a = c.args in
+returns-clause-value c = let a = c.args in
     let p = c.decimal_len-offset.ensures in
     let q = c.name_len-name.ensures in
     let t = c.behind_len-rest.ensures in
     let r = c.payload_len-payload.ensures ∙ ap (λ (n : ℕ). cond (eqb n 0) 1 (2 * n)) (sym (body_long a.stream.now a.at a.len c.requires.fits)) ∙ sym (field_long (body_at a.stream.now a.at a.len)) in
-    (omega (arith, command_long a.rules a.at a.cid (body_at a.stream.now a.at a.len)), omega (arith, few (goal.at.returns-clause-value c).After-behind_len-rest))
+    omega (arith, command_long a.rules a.at a.cid (body_at a.stream.now a.at a.len))
 
 pub returns-clause-upper_bound : goal.returns-clause-upper_bound
-returns-clause-upper_bound c =
-    let a = c.args in
+returns-clause-upper_bound c = let a = c.args in
     let p = c.decimal_len-offset.ensures in
     let q = c.name_len-name.ensures in
     let t = c.behind_len-rest.ensures in
     let r = c.payload_len-payload.ensures ∙ ap (λ (n : ℕ). cond (eqb n 0) 1 (2 * n)) (sym (body_long a.stream.now a.at a.len c.requires.fits)) ∙ sym (field_long (body_at a.stream.now a.at a.len)) in
-    (omega (arith, command_long a.rules a.at a.cid (body_at a.stream.now a.at a.len)), omega (arith, few (goal.at.returns-clause-upper_bound c).After-behind_len-rest))
+    omega (arith, few (goal.at.returns-clause-upper_bound c).After-behind_len-rest)

@@ -31,7 +31,7 @@ few : (c : Start) → length (decimal c.args.at) ≤ 20
 few c = digits_few c.args.at (let f = c.ranges.at in omega arith)
 
 number-few : (c : After-decimal_len-in-Stop-2) → length (decimal c.number.result) ≤ 20
-number-few c = digits_few c.number.result (let f = c.number.type-inv in omega arith)
+number-few c = digits_few c.number.result (let f = c.number.type_inv in omega arith)
 
 pub command_len-requires : goal.command_len-requires
 command_len-requires c =
@@ -53,39 +53,26 @@ pub overflow_add-result-in-Refused : goal.overflow_add-result-in-Refused
 overflow_add-result-in-Refused c = let e = c.decimal_len-in-Refused.ensures in omega (arith, few (goal.at.overflow_add-result-in-Refused c).Start)
 
 pub returns-in-End-clause-value : goal.returns-in-End-clause-value
-returns-in-End-clause-value c =
-    let e = c.decimal_len.ensures in
-    (known-long (goal.at.returns-in-End-clause-value c).Start c.in-End.is (omega (arith, end_long c.args.at)), omega (arith, few (goal.at.returns-in-End-clause-value c).Start))
+returns-in-End-clause-value c = let e = c.decimal_len.ensures in
+    known-long (goal.at.returns-in-End-clause-value c).Start c.in-End.is (omega (arith, end_long c.args.at))
 
 pub returns-in-End-clause-upper_bound : goal.returns-in-End-clause-upper_bound
-returns-in-End-clause-upper_bound c =
-    let e = c.decimal_len.ensures in
-    (known-long (goal.at.returns-in-End-clause-upper_bound c).Start c.in-End.is (omega (arith, end_long c.args.at)), omega (arith, few (goal.at.returns-in-End-clause-upper_bound c).Start))
+returns-in-End-clause-upper_bound c = let e = c.decimal_len.ensures in
+    omega (arith, few (goal.at.returns-in-End-clause-upper_bound c).Start)
 
 pub returns-in-Stop-clause-value : goal.returns-in-Stop-clause-value
-returns-in-Stop-clause-value c =
-    let e = c.decimal_len-in-Stop.ensures in
-    let l = c.decimal_len-in-Stop-2.ensures in (
-      ap (λ (n : ℕ). n + 7 + c.decimal_len-in-Stop-2.result) e
-          ∙ stop-known (goal.at.returns-in-Stop-clause-value c).Start c.in-Stop.is (l ∙ ap (λ (n : ℕ). length (decimal n)) c.number.ensures),
-      omega (arith, few (goal.at.returns-in-Stop-clause-value c).Start, number-few (goal.at.returns-in-Stop-clause-value c).After-decimal_len-in-Stop-2),
-    )
+returns-in-Stop-clause-value c = let e = c.decimal_len-in-Stop.ensures in
+    let l = c.decimal_len-in-Stop-2.ensures in ap (λ (n : ℕ). n + 7 + c.decimal_len-in-Stop-2.result) e
+          ∙ stop-known (goal.at.returns-in-Stop-clause-value c).Start c.in-Stop.is (l ∙ ap (λ (n : ℕ). length (decimal n)) c.number.ensures)
 
 pub returns-in-Stop-clause-upper_bound : goal.returns-in-Stop-clause-upper_bound
-returns-in-Stop-clause-upper_bound c =
-    let e = c.decimal_len-in-Stop.ensures in
-    let l = c.decimal_len-in-Stop-2.ensures in (
-      ap (λ (n : ℕ). n + 7 + c.decimal_len-in-Stop-2.result) e
-          ∙ stop-known (goal.at.returns-in-Stop-clause-upper_bound c).Start c.in-Stop.is (l ∙ ap (λ (n : ℕ). length (decimal n)) c.number.ensures),
-      omega (arith, few (goal.at.returns-in-Stop-clause-upper_bound c).Start, number-few (goal.at.returns-in-Stop-clause-upper_bound c).After-decimal_len-in-Stop-2),
-    )
+returns-in-Stop-clause-upper_bound c = let e = c.decimal_len-in-Stop.ensures in
+    let l = c.decimal_len-in-Stop-2.ensures in omega (arith, few (goal.at.returns-in-Stop-clause-upper_bound c).Start, number-few (goal.at.returns-in-Stop-clause-upper_bound c).After-decimal_len-in-Stop-2)
 
 pub returns-in-Refused-clause-value : goal.returns-in-Refused-clause-value
-returns-in-Refused-clause-value c =
-    let e = c.decimal_len-in-Refused.ensures in
-    (known-long (goal.at.returns-in-Refused-clause-value c).Start c.in-Refused.is (omega (arith, end_long c.args.at)), omega (arith, few (goal.at.returns-in-Refused-clause-value c).Start))
+returns-in-Refused-clause-value c = let e = c.decimal_len-in-Refused.ensures in
+    known-long (goal.at.returns-in-Refused-clause-value c).Start c.in-Refused.is (omega (arith, end_long c.args.at))
 
 pub returns-in-Refused-clause-upper_bound : goal.returns-in-Refused-clause-upper_bound
-returns-in-Refused-clause-upper_bound c =
-    let e = c.decimal_len-in-Refused.ensures in
-    (known-long (goal.at.returns-in-Refused-clause-upper_bound c).Start c.in-Refused.is (omega (arith, end_long c.args.at)), omega (arith, few (goal.at.returns-in-Refused-clause-upper_bound c).Start))
+returns-in-Refused-clause-upper_bound c = let e = c.decimal_len-in-Refused.ensures in
+    omega (arith, few (goal.at.returns-in-Refused-clause-upper_bound c).Start)

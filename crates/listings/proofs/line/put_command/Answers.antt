@@ -7,14 +7,13 @@ use Rattle.listings.proofs.line.put_command.Goals as goal
 pub put_before-a-requires : goal.put_before-a-requires
 put_before-a-requires c =
     let a = c.args in
-    before_room a.rules a.at a.cid a.out.now a.to (body_at a.stream.now a.at a.len) c.requires.1
+    before_room a.rules a.at a.cid a.out.now a.to (body_at a.stream.now a.at a.len) c.requires.len_in_bounds
 
 pub put_behind-requires-clause-len_in_bounds : goal.put_behind-requires-clause-len_in_bounds
-put_behind-requires-clause-len_in_bounds c =
-    let a = c.args in
-    (c.requires.0, behind_room a.rules a.at a.cid a.out.now a.to (body_at a.stream.now a.at a.len) c.requires.1 c.put_before-a.ensures c.put_payload-b.ensures)
+put_behind-requires-clause-len_in_bounds c = let a = c.args in
+    behind_room a.rules a.at a.cid a.out.now a.to (body_at a.stream.now a.at a.len) c.requires.len_in_bounds c.put_before-a.ensures c.put_payload-b.ensures
 
 pub returns : goal.returns
 returns c =
     let a = c.args in
-    command_put a.rules a.at a.cid a.out.now a.to (body_at a.stream.now a.at a.len) c.requires.1 c.put_before-a.ensures c.put_payload-b.ensures c.put_behind.ensures
+    command_put a.rules a.at a.cid a.out.now a.to (body_at a.stream.now a.at a.len) c.requires.len_in_bounds c.put_before-a.ensures c.put_payload-b.ensures c.put_behind.ensures

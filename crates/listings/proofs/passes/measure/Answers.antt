@@ -12,29 +12,20 @@ use Rattle.listings.specs.Passes.{step_line}
 use Rattle.listings.proofs.Lining.{frame_long, stamp_few}
 use Rattle.listings.proofs.Walking.{Summed, summed_none, summed_over, summed_last, summed_next, step_text, rest_after}
 use Rattle.listings.proofs.passes.measure.Goals as goal
+use Rattle.listings.proofs.passes.measure.Goals.{After-line_len}
 
-abbrev invariant-loop : tie.invariant-loop
-invariant-loop rules frame stream room stamp at₀ sum₀ at sum = Summed rules frame stream room at sum
-
-abbrev decreases-loop : tie.decreases-loop
-decreases-loop rules frame stream room stamp at₀ sum₀ at sum = length stream - at
+-- the length of a step's line
+line_long : (c : After-line_len) → c.stamp_len-stamp.result + c.line_len.result
+    ≡ length (step_text c.args.rules c.args.frame c.args.stream.now c.loop-sum.at (told_step c.step_at-found.result))
+line_long c =
+    ap₂ (λ (a b : ℕ). a + b) c.stamp_len-stamp.ensures c.line_len.ensures.value
+    ∙ sym (frame_long c.args.frame (step_line c.args.rules c.args.stream.now c.loop-sum.at (told_step c.step_at-found.result)))
 
 pub overflow_add-len : goal.overflow_add-len
 overflow_add-len c =
     let e = c.stamp_len-stamp.ensures in
-    let l = c.line_len.ensures.1 in
+    let l = c.line_len.ensures.upper_bound in
     omega (arith, stamp_few c.args.frame (let f = c.ranges.frame in omega arith))
-
--- the length of a step's line
-module _ (c : tie.After-line-len invariant-loop decreases-loop) where
-  abbrev (goal.at.overflow_add-len c).Start : tie.Start invariant-loop decreases-loop
-  (goal.at.overflow_add-len c).Start = (goal.at.overflow_add-len c).Start
-
-  line-long : c.stamp_len-stamp.result + c.line_len.result
-      ≡ length (step_text c.args.rules c.args.frame c.args.stream.now c.loop-sum.at (told_step c.step_at-found.result))
-  line-long =
-      ap₂ (λ (a b : ℕ). a + b) c.stamp_len-stamp.ensures c.line_len.ensures.0
-      ∙ sym (frame_long c.args.frame (step_line c.args.rules c.args.stream.now c.loop-sum.at (told_step c.step_at-found.result)))
 
 pub loop-sum-smaller : goal.loop-sum-smaller
 loop-sum-smaller c =
@@ -46,28 +37,28 @@ loop-sum-preserved c =
     let e = sym (ap told_step c.in-Command.is) ∙ c.step_at-found.ensures in
     let m = step_on _ _ _ (sym e) in
     summed_next c.args.rules c.args.frame c.args.stream.now c.args.room c.loop-sum.invariant e
-    (line-long (goal.at.loop-sum-preserved c).After-line_len ∙ ap (λ (f : Step). length (step_text c.args.rules c.args.frame c.args.stream.now c.loop-sum.at (told_step f))) c.in-Command.is)
+    (line_long (goal.at.loop-sum-preserved c).After-line_len ∙ ap (λ (f : Step). length (step_text c.args.rules c.args.frame c.args.stream.now c.loop-sum.at (told_step f))) c.in-Command.is)
     c.if-room-sum.false
     m.1
 
 pub returns-then-room-sum : goal.returns-then-room-sum
 returns-then-room-sum c =
-    summed_over c.args.rules c.args.frame c.args.stream.now c.args.room c.loop-sum.invariant c.step_at-found.ensures (line-long (goal.at.returns-then-room-sum c).After-line_len) c.if-room-sum.true
+    summed_over c.args.rules c.args.frame c.args.stream.now c.args.room c.loop-sum.invariant c.step_at-found.ensures (line_long (goal.at.returns-then-room-sum c).After-line_len) c.if-room-sum.true
 
 pub returns-in-End : goal.returns-in-End
 returns-in-End c =
-    summed_last c.args.rules c.args.frame c.args.stream.now c.args.room c.loop-sum.invariant c.step_at-found.ensures (line-long (goal.at.returns-in-End c).After-line_len)
+    summed_last c.args.rules c.args.frame c.args.stream.now c.args.room c.loop-sum.invariant c.step_at-found.ensures (line_long (goal.at.returns-in-End c).After-line_len)
     (ap (λ (f : Step). rest_after c.args.rules c.args.frame c.args.stream.now (told_step f)) c.in-End.is)
     c.if-room-sum.false
 
 pub returns-in-Stop : goal.returns-in-Stop
 returns-in-Stop c =
-    summed_last c.args.rules c.args.frame c.args.stream.now c.args.room c.loop-sum.invariant c.step_at-found.ensures (line-long (goal.at.returns-in-Stop c).After-line_len)
+    summed_last c.args.rules c.args.frame c.args.stream.now c.args.room c.loop-sum.invariant c.step_at-found.ensures (line_long (goal.at.returns-in-Stop c).After-line_len)
     (ap (λ (f : Step). rest_after c.args.rules c.args.frame c.args.stream.now (told_step f)) c.in-Stop.is)
     c.if-room-sum.false
 
 pub returns-in-Refused : goal.returns-in-Refused
 returns-in-Refused c =
-    summed_last c.args.rules c.args.frame c.args.stream.now c.args.room c.loop-sum.invariant c.step_at-found.ensures (line-long (goal.at.returns-in-Refused c).After-line_len)
+    summed_last c.args.rules c.args.frame c.args.stream.now c.args.room c.loop-sum.invariant c.step_at-found.ensures (line_long (goal.at.returns-in-Refused c).After-line_len)
     (ap (λ (f : Step). rest_after c.args.rules c.args.frame c.args.stream.now (told_step f)) c.in-Refused.is)
     c.if-room-sum.false
