@@ -13,5 +13,5 @@ returns c =
     let a = c.args in
     let n = c.at_most-n in
     let size : length a.held.now ≡ 333 = search rules in
-    holds a.held.now c.put_four.new.0 c.put_four-2.new.0 a.row n.result
+    holds a.held.now c.put_four.new.memory c.put_four-2.new.memory a.row n.result
     a.line a.frame a.offset a.body size (search rules) n.ensures c.put_four.ensures c.put_four-2.ensures

@@ -5,8 +5,8 @@ use Rattle.ledger.proofs.MemoryAnswers.{holds_it, notes_it, writes_nothing}
 use Rattle.ledger.proofs.memory.take_effect.Goals as goal
 
 pub returns-then-row-lt37 : goal.returns-then-row-lt37
-returns-then-row-lt37 c =
+returns-then-row-lt37 c lines p =
     let a = c.args in
     let row = c.row_of-row in
     holds_it a.cid a.line a.frame a.offset a.body row.result row.ensures lines a.listed p a.held.now a.list.now
-    c.hold.new.0 c.if-row-lt37.true c.hold.ensures
+    c.hold.new.held c.if-row-lt37.true c.hold.ensures

@@ -10,4 +10,4 @@ returns c =
     let a = c.args in
     let size : length a.pending.now ≡ 528 = search rules in
     came a.pending.now a.cid size (search rules) c.waiting-n.result a.line a.frame a.offset a.body
-    c.waiting-n.ensures (search rules) c.put_four.new.0 c.put_four.ensures
+    c.waiting-n.ensures (search rules) c.put_four.new.memory c.put_four.ensures
