@@ -16,35 +16,35 @@ use Rattle.lent.specs.contracts.records.records_len.{ended as records_len_ended,
 use Rattle.lent.specs.contracts.records.build_records.{ended as build_records_ended, clauses as build_records_clauses}
 use Rattle.lent.specs.contracts.records.build_four.{ended as build_four_ended, clauses as build_four_clauses}
 
-new_one : Fixed new_ended (λ M 𝓤. new_clauses 𝓤)
+new_one : Fixed new_ended (λ M 𝓤 𝓛. new_clauses 𝓛)
 new_one _ 𝓤 𝓛 _ _ _ _ _ _ _ _ _ = fixes 𝓤 (λ p q. p ∙ sym q)
 
-next_one : FixedWith next_ended (λ M 𝓤. next_clauses 𝓤) (λ κs e. e.0.now)
+next_one : FixedWith next_ended (λ M 𝓤 𝓛. next_clauses 𝓛) (λ κs e. e.0.now)
 next_one _ 𝓤 𝓛 _ _ _ _ _ _ _ _ _ = fixes 𝓤 (λ p q. ap₂ (λ r o. (r, o)) (step_tells (ap (λ x. x.0) (p ∙ sym q))) (ap (λ x. x.1) (p ∙ sym q)))
 
-next_record_one : FixedWith next_record_ended (λ M 𝓤. next_record_clauses 𝓤) (λ κs e. e.0.now)
+next_record_one : FixedWith next_record_ended (λ M 𝓤 𝓛. next_record_clauses 𝓛) (λ κs e. e.0.now)
 next_record_one _ 𝓤 𝓛 _ _ _ _ _ _ _ _ _ = fixes 𝓤 (λ p q. ap₂ (λ r o. (r, o)) (handed_tells (ap (λ x. x.0) (p ∙ sym q))) (ap (λ x. x.1) (p ∙ sym q)))
 
-stream_one : Fixed stream_ended (λ M 𝓤. stream_clauses 𝓤)
+stream_one : Fixed stream_ended (λ M 𝓤 𝓛. stream_clauses 𝓛)
 stream_one _ 𝓤 𝓛 _ _ _ _ _ _ _ _ _ = fixes 𝓤 (λ p q. p ∙ sym q)
 
-index_one : Fixed index_ended (λ M 𝓤. index_clauses 𝓤)
+index_one : Fixed index_ended (λ M 𝓤 𝓛. index_clauses 𝓛)
 index_one _ 𝓤 𝓛 _ _ _ _ _ _ _ _ _ = fixes 𝓤 (λ p q. p ∙ sym q)
 
-parse_uplink_one : Fixed parse_uplink_ended (λ M 𝓤. parse_uplink_clauses 𝓤)
+parse_uplink_one : Fixed parse_uplink_ended (λ M 𝓤 𝓛. parse_uplink_clauses 𝓛)
 parse_uplink_one _ 𝓤 𝓛 _ _ _ _ _ _ _ _ _ = fixes 𝓤 (λ p q. p ∙ sym q)
 
-parse_downlink_one : Fixed parse_downlink_ended (λ M 𝓤. parse_downlink_clauses 𝓤)
+parse_downlink_one : Fixed parse_downlink_ended (λ M 𝓤 𝓛. parse_downlink_clauses 𝓛)
 parse_downlink_one _ 𝓤 𝓛 _ _ _ _ _ _ _ _ _ = fixes 𝓤 (λ p q. p ∙ sym q)
 
-nth_step_one : Fixed nth_step_ended (λ M 𝓤. nth_step_clauses 𝓤)
+nth_step_one : Fixed nth_step_ended (λ M 𝓤 𝓛. nth_step_clauses 𝓛)
 nth_step_one _ 𝓤 𝓛 _ _ _ _ _ _ _ _ _ = fixes 𝓤 (λ p q. step_tells (p ∙ sym q))
 
-records_len_one : Fixed records_len_ended (λ M 𝓤. records_len_clauses 𝓤)
+records_len_one : Fixed records_len_ended (λ M 𝓤 𝓛. records_len_clauses 𝓛)
 records_len_one _ 𝓤 𝓛 _ _ _ _ _ _ _ _ _ = fixes 𝓤 (λ p q. build_tells (p ∙ sym q))
 
-build_records_one : FixedWith build_records_ended (λ M 𝓤. build_records_clauses 𝓤) (λ κs e. e.1.1.0.now)
+build_records_one : FixedWith build_records_ended (λ M 𝓤 𝓛. build_records_clauses 𝓛) (λ κs e. e.1.1.0.now)
 build_records_one _ 𝓤 𝓛 _ _ _ _ _ _ _ _ _ = fixes 𝓤 (λ p q. ap₂ (λ r o. (r, o)) (build_tells (ap (λ x. x.0) (p ∙ sym q))) (ap (λ x. x.1) (p ∙ sym q)))
 
-build_four_one : FixedWith build_four_ended (λ M 𝓤. build_four_clauses 𝓤) (λ κs e. e.1.1.0.now)
+build_four_one : FixedWith build_four_ended (λ M 𝓤 𝓛. build_four_clauses 𝓛) (λ κs e. e.1.1.0.now)
 build_four_one _ 𝓤 𝓛 _ _ _ _ _ _ _ _ _ = fixes 𝓤 (λ p q. ap₂ (λ r o. (r, o)) (build_tells (ap (λ x. x.0) (p ∙ sym q))) (ap (λ x. x.1) (p ∙ sym q)))

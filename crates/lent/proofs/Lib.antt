@@ -3,8 +3,4 @@ pub mod Determined
 pub mod Fitting
 pub mod Fixing
 pub mod Iteration
-pub mod Lending
 pub mod Packing
-pub mod RecordSize
-pub mod Values
-pub mod Walking
