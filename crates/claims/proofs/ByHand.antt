@@ -1,17 +1,13 @@
 -- The contracts by hand admit exactly what their definitions say: crates/claims/specs/ByHand.antt. Assumes nothing.
 use Prim.Native.Nat.{ℕ, zero, suc}
-use mathlib.Core.HLevel.{Unit-prop, prop→set}
 use mathlib.Core.List.{List}
 use mathlib.Core.Logic.{∥∥₁_elim}
 use mathlib.Core.Path.{◌≡◌, refl, sym, ◌∙◌}
-use mathlib.Mathlib.Data.Part.{Part, some, mem-some, bind-some}
-use seplogic.Ra.Ura.{Ura}
-use seplogic.Ra.Basic.{of_core_id}
 use base.Logic.{ent, emp, id⊢}
 use base.Stored.{Coded, Coded-set, coded_ℕ, coded×, coded_list, coded_via}
-use prog.Wp.{Heap}
-use ghost.Atoms.{Atoms}
+use contract.BorrowModel.{logic₀}
 use contract.Monad.{fact}
+use ghost.Model.{Res, 𝓤}
 use denote.Ref.{NamedLft}
 use denote.Signature.{named_lft}
 use Rattle.bits.proofs.Fixed.{by_inverse}
@@ -91,55 +87,21 @@ built_set = Coded-set coded_built
 build_set : IsSet (Built × List ℕ)
 build_set = Coded-set (coded× coded_built (coded_list coded_ℕ))
 
--- ---- a model of memory in which nothing is owned
-
-abbrev M₀ : Type 1
-M₀ = Unit {1}
-
-abbrev joined : M₀ → M₀ → Part {1, 1} M₀
-joined a b = some tt
-
-𝓤₀ : Ura M₀
-𝓤₀ = record {
-  op = joined;
-  one = tt;
-  is_ura = record {
-    is_ra = of_core_id joined
-        (record { is_set = prop→set Unit-prop; op_comm = λ a b. refl; op_assoc = λ a b c. bind-some tt (λ (x : M₀). joined x c) ∙ sym (bind-some tt (λ (x : M₀). joined a x)) })
-        (λ a. mem-some tt);
-    one-op = λ a. refl;
-  };
-}
-
-abbrev H₀ : Heap 𝓤₀
-H₀ = record { at = λ q τ b o v. emp 𝓤₀; room = λ τ b o. emp 𝓤₀; dies = λ τ b. emp 𝓤₀; ⇛ = λ P. P }
-
-abbrev A₀ : Atoms 𝓤₀
-A₀ = record {
-  lft = λ κ q. emp 𝓤₀;
-  dead = λ κ. emp 𝓤₀;
-  obs = λ γ x. emp 𝓤₀;
-  auth = λ γ x. emp 𝓤₀;
-  res = λ γ x. emp 𝓤₀;
-  bor = λ κ P. emp 𝓤₀;
-  obor = λ κ q P. emp 𝓤₀;
-  lent = λ κ P. emp 𝓤₀;
-  shr_bor = λ κ P. emp 𝓤₀;
-}
+-- ---- in the closed model of memory
 
 -- a fact that follows from one that is so is so
-follows : {φ ψ : Type 0} → IsProp φ → ψ → ent 𝓤₀ (fact 𝓤₀ ψ) (fact 𝓤₀ φ) → φ
-follows {φ} p x h = ∥∥₁_elim (h.apply tt ∣ (x, tt) ∣₁) p (λ t. t.0)
+follows : {φ ψ : Type 0} → IsProp φ → ψ → ent 𝓤 (fact 𝓤 ψ) (fact 𝓤 φ) → φ
+follows {φ} p x h = ∥∥₁_elim (h.apply 𝓤.one ∣ (x, tt) ∣₁) p (λ t. t.0)
 
 pub by_hand : ByHand
 by_hand = record {
-  new = λ κs s rules it exit. (λ q. q _ (iterator_set (named_lft 1 0 tt κs) _ _) (λ M 𝓤 𝓛 mem run g. id⊢ 𝓤 _), λ e φ p h. follows p e (h M₀ {𝓤 = 𝓤₀} _ (λ m. emp 𝓤₀) (λ r vs K. emp 𝓤₀) tt));
-  parse_up = λ κs s it exit. (λ q. q _ (iterator_set (named_lft 1 0 tt κs) _ _) (λ M 𝓤 𝓛 mem run g. id⊢ 𝓤 _), λ e φ p h. follows p e (h M₀ {𝓤 = 𝓤₀} _ (λ m. emp 𝓤₀) (λ r vs K. emp 𝓤₀) tt));
-  parse_down = λ κs s it exit. (λ q. q _ (iterator_set (named_lft 1 0 tt κs) _ _) (λ M 𝓤 𝓛 mem run g. id⊢ 𝓤 _), λ e φ p h. follows p e (h M₀ {𝓤 = 𝓤₀} _ (λ m. emp 𝓤₀) (λ r vs K. emp 𝓤₀) tt));
-  next = λ κs it r exit. (λ q. q _ (next_set (named_lft 2 1 tt κs) _ _) (λ M 𝓤 𝓛 mem run g. id⊢ 𝓤 _), λ e φ p h. follows p e (h M₀ {𝓤 = 𝓤₀} _ (λ m. emp 𝓤₀) (λ r vs K. emp 𝓤₀) tt));
-  next_record = λ κs it frame r exit. (λ q. q _ (next_record_set (named_lft 2 1 tt κs) _ _) (λ M 𝓤 𝓛 mem run g. id⊢ 𝓤 _), λ e φ p h. follows p e (h M₀ {𝓤 = 𝓤₀} _ (λ m. emp 𝓤₀) (λ r vs K. emp 𝓤₀) tt));
-  nth_step = λ κs rules s n r exit. (λ q. q _ (found_set _ _) (λ M 𝓤 𝓛 mem run g. id⊢ 𝓤 _), λ e φ p h. follows p e (h M₀ {𝓤 = 𝓤₀} _ (λ m. emp 𝓤₀) (λ r vs K. emp 𝓤₀) tt));
-  records_len = λ κs rules records r exit. (λ q. q _ (built_set _ _) (λ M 𝓤 𝓛 mem run g. id⊢ 𝓤 _), λ e φ p h. follows p e (h M₀ {𝓤 = 𝓤₀} _ (λ m. emp 𝓤₀) (λ r vs K. emp 𝓤₀) tt));
-  build_records = λ κs rules records out r exit. (λ q. q _ (build_set _ _) (λ M 𝓤 𝓛 mem run g. id⊢ 𝓤 _), λ e φ p h. follows p e (h M₀ {𝓤 = 𝓤₀} _ (λ m. emp 𝓤₀) (λ r vs K. emp 𝓤₀) tt));
-  build_four = λ κs rules records out r exit. (λ q. q _ (build_set _ _) (λ M 𝓤 𝓛 mem run g. id⊢ 𝓤 _), λ e φ p h. follows p e (h M₀ {𝓤 = 𝓤₀} _ (λ m. emp 𝓤₀) (λ r vs K. emp 𝓤₀) tt));
+  new = λ κs s rules it exit. (λ q. q _ (iterator_set (named_lft 1 0 tt κs) _ _) (λ M 𝓤' 𝓛 mem run g. id⊢ 𝓤' _), λ e φ p h. follows p e (h Res 𝓤 logic₀ (λ m. emp 𝓤) (λ r vs K. emp 𝓤) tt));
+  parse_up = λ κs s it exit. (λ q. q _ (iterator_set (named_lft 1 0 tt κs) _ _) (λ M 𝓤' 𝓛 mem run g. id⊢ 𝓤' _), λ e φ p h. follows p e (h Res 𝓤 logic₀ (λ m. emp 𝓤) (λ r vs K. emp 𝓤) tt));
+  parse_down = λ κs s it exit. (λ q. q _ (iterator_set (named_lft 1 0 tt κs) _ _) (λ M 𝓤' 𝓛 mem run g. id⊢ 𝓤' _), λ e φ p h. follows p e (h Res 𝓤 logic₀ (λ m. emp 𝓤) (λ r vs K. emp 𝓤) tt));
+  next = λ κs it r exit. (λ q. q _ (next_set (named_lft 2 1 tt κs) _ _) (λ M 𝓤' 𝓛 mem run g. id⊢ 𝓤' _), λ e φ p h. follows p e (h Res 𝓤 logic₀ (λ m. emp 𝓤) (λ r vs K. emp 𝓤) tt));
+  next_record = λ κs it frame r exit. (λ q. q _ (next_record_set (named_lft 2 1 tt κs) _ _) (λ M 𝓤' 𝓛 mem run g. id⊢ 𝓤' _), λ e φ p h. follows p e (h Res 𝓤 logic₀ (λ m. emp 𝓤) (λ r vs K. emp 𝓤) tt));
+  nth_step = λ κs rules s n r exit. (λ q. q _ (found_set _ _) (λ M 𝓤' 𝓛 mem run g. id⊢ 𝓤' _), λ e φ p h. follows p e (h Res 𝓤 logic₀ (λ m. emp 𝓤) (λ r vs K. emp 𝓤) tt));
+  records_len = λ κs rules records r exit. (λ q. q _ (built_set _ _) (λ M 𝓤' 𝓛 mem run g. id⊢ 𝓤' _), λ e φ p h. follows p e (h Res 𝓤 logic₀ (λ m. emp 𝓤) (λ r vs K. emp 𝓤) tt));
+  build_records = λ κs rules records out r exit. (λ q. q _ (build_set _ _) (λ M 𝓤' 𝓛 mem run g. id⊢ 𝓤' _), λ e φ p h. follows p e (h Res 𝓤 logic₀ (λ m. emp 𝓤) (λ r vs K. emp 𝓤) tt));
+  build_four = λ κs rules records out r exit. (λ q. q _ (build_set _ _) (λ M 𝓤' 𝓛 mem run g. id⊢ 𝓤' _), λ e φ p h. follows p e (h Res 𝓤 logic₀ (λ m. emp 𝓤) (λ r vs K. emp 𝓤) tt));
 }

@@ -7,7 +7,7 @@ use native.Mathlib.Omega.{arith}
 use lib.ListN.{length, drop, length-append}
 use lib.Seq.{length-take-le}
 use borrow.Author.Tests.{le-leb}
-use denote.Ref.{Bor}
+use Rattle.std.specs.Borrow.{Bor, MutBor}
 use contract.Lifetimes.{Lfts}
 use Rattle.table.specs.Answers.{Answer, given, refused}
 use Rattle.table.specs.Table.{length_of}
@@ -278,8 +278,8 @@ pub downlink_faithful : (stream : Bor (List ℕ)) → Faithful (length_of sent_d
 downlink_faithful stream = by-offsets (length_of sent_down) stream.now itself (DownlinkAsked stream) (downlink_asked stream)
 
 -- what the contract of `next` says
-pub next_says : (it : Bor MacCommandIterator) (r : Step) (κs : Lfts 2) (exit : Bor MacCommandIterator × Unit)
-    → Admits next.ended (λ M 𝓤. next.clauses 𝓤) κs (it, tt) r exit
+pub next_says : (it : MutBor MacCommandIterator) (r : Step) (κs : Lfts 2) (exit : MutBor MacCommandIterator × Unit)
+    → Admits next.ended (λ M 𝓤 𝓛. next.clauses 𝓛) κs (it, tt) r exit
     → ◌≡◌ {A = Answer (Found Heading) × MacCommandIterator} (told_step r, exit.0.now) (nexted it.now)
 next_says it r κs exit q = (by_hand.next κs it r exit).0 q
 
@@ -370,8 +370,8 @@ module _ (rules : Rules) (s : List ℕ) (frame : ℕ) where
           )
 
 -- what the contract of `next_record` says
-pub next_record_says : (it : Bor MacCommandIterator) (frame : ℕ) (r : Handed) (κs : Lfts 2) (exit : Bor MacCommandIterator × (ℕ × Unit))
-    → Admits next_record.ended (λ M 𝓤. next_record.clauses 𝓤) κs (it, (frame, tt)) r exit
+pub next_record_says : (it : MutBor MacCommandIterator) (frame : ℕ) (r : Handed) (κs : Lfts 2) (exit : MutBor MacCommandIterator × (ℕ × Unit))
+    → Admits next_record.ended (λ M 𝓤 𝓛. next_record.clauses 𝓛) κs (it, (frame, tt)) r exit
     → ◌≡◌ {A = (Answer (Found Heading) × Record) × MacCommandIterator} (told_handed r, exit.0.now) (nexted_record frame it.now)
 next_record_says it frame r κs exit q = (by_hand.next_record κs it frame r exit).0 q
 

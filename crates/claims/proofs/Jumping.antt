@@ -3,7 +3,7 @@ use Prim.Native.Nat.{ℕ, ◌+◌, ◌*◌, ◌/◌, ◌%◌, ◌≤◌, ◌<◌
 use mathlib.Core.List.{List, [], ◌∷◌, ◌++◌}
 use mathlib.Core.Path.{◌≡◌, refl, sym, ap, ◌∙◌, subst}
 use native.Mathlib.Omega.{arith}
-use denote.Ref.{Bor}
+use Rattle.std.specs.Borrow.{Bor, MutBor}
 use lib.ListN.{length, get_or, take, drop, length-drop, drop_of_length-le, get_or-append}
 use lib.Seq.{take-append_seam}
 use Rattle.bits.specs.Memory.{over}
@@ -172,15 +172,18 @@ own rules stream entries m n r q =
 
 -- the same reference to other numbers
 abbrev to : Bor (List ℕ) → List ℕ → Bor (List ℕ)
-to s l = record { ref_ptr = s.ptr; ghost_name = s.name; now = l }
+to s l = record s { now = l }
+
+abbrev to_lent : MutBor (List ℕ) → List ℕ → MutBor (List ℕ)
+to_lent s l = record s { now = l }
 
 makes : {d : Direction} {bytes before : List ℕ} {a : Answer ℕ} {after : List ℕ}
-    → ((s n : Bor (List ℕ)) (r : EntriesAnswer) (left : List ℕ) → Makes (record { direction = d }) (to s bytes) (to n before) r left → ◌≡◌ {A = Answer ℕ × List ℕ} (told_entries r, left) (a, after))
+    → ((s : Bor (List ℕ)) (n : MutBor (List ℕ)) (r : EntriesAnswer) (left : List ℕ) → Makes (record { direction = d }) (to s bytes) (to_lent n before) r left → ◌≡◌ {A = Answer ℕ × List ℕ} (told_entries r, left) (a, after))
     → MakesAs d bytes before a after
 makes {d} {bytes} computed = record {
   so = λ stream numbers s n r left g.
       let there = subst (λ (l : List ℕ). Makes (record { direction = d }) (to stream l) numbers r left) s g in
-      let both = computed stream numbers r left (subst (λ (l : List ℕ). Makes (record { direction = d }) (to stream bytes) (to numbers l) r left) n there) in
+      let both = computed stream numbers r left (subst (λ (l : List ℕ). Makes (record { direction = d }) (to stream bytes) (to_lent numbers l) r left) n there) in
       (ap (λ x. x.0) both, ap (λ x. x.1) both);
 }
 

@@ -8,7 +8,7 @@ use native.Mathlib.Omega.{arith}
 use lib.Dec.{ltb, leb}
 use lib.ListN.{length, set}
 use borrow.Author.Tests.{lt-ltb, le-ltb, le-leb, lt-leb}
-use denote.Ref.{Bor}
+use Rattle.std.specs.Borrow.{Bor, MutBor}
 use Rattle.bits.specs.Memory.{over, written_at}
 use Rattle.table.specs.Answers.{Answer, Consent, refused, accepted}
 use Rattle.table.specs.Told.{told_verdict}
@@ -109,7 +109,7 @@ next_record_kept frame _ _ _ n (Handing.asked it r κs exit q) e =
     let r_is : told_step r.step ≡ refused n = retold_refused (λ (h : Heading). r.«record») (told_step r.step) n e in
     ap (λ x. x.1) t ∙ ap (λ (x : Answer (Found Heading)). at_index it.now (moved_to x it.now.index)) (sym (ap (λ x. x.0.0) t) ∙ r_is)
 
-write_says : (r : Record) (out : Bor (List ℕ)) (at next : ℕ) (after : List ℕ) → GivesWith (λ s. s.1.0.now) write.Post (r, (out, (at, tt))) next after
+write_says : (r : Record) (out : MutBor (List ℕ)) (at next : ℕ) (after : List ℕ) → GivesWith (λ s. s.1.0.now) write.Post (r, (out, (at, tt))) next after
     → Written out.now at (held_by r) next after
 unfolding written_at
 write_says r out at next after g =
@@ -121,7 +121,7 @@ write_says r out at next after g =
       room = λ h. both (e ∙ ap (λ (b : Bool). cond b (k, over out.now at (command_bytes (held_by r))) (at, out.now)) (le-leb k (length out.now) h));
     }
 
-pack_says : (r : Record) (slots : Bor (List ℕ)) (i : ℕ) (after : List ℕ) → GivesWith (λ s. s.1.0.now) pack.Post (r, (slots, (i, tt))) tt after
+pack_says : (r : Record) (slots : MutBor (List ℕ)) (i : ℕ) (after : List ℕ) → GivesWith (λ s. s.1.0.now) pack.Post (r, (slots, (i, tt))) tt after
     → (length slots.now / 8 ≤ i → after ≡ slots.now) × (after ≡ packed_at slots.now i (held_by r))
 unfolding packed_at
 pack_says r slots i after g =

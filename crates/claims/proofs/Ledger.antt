@@ -9,7 +9,7 @@ use native.Mathlib.Omega.{arith}
 use lib.Dec.{ltb}
 use lib.ListN.{length, drop, length-append}
 use lib.Seq.{drop-append_seam}
-use denote.Ref.{Bor}
+use Rattle.std.specs.Borrow.{Bor, MutBor}
 use Rattle.bits.specs.Every.{Every}
 use Rattle.table.specs.Answers.{Answer, given, refused, Consent, accepted}
 use Rattle.table.specs.Table.{length_of}
@@ -92,16 +92,16 @@ Outcome = Consent × ℕ × Book
 abbrev pub outcome_of : Replayed → List ℕ → Outcome
 outcome_of r after = (told_verdict r.verdict, r.line, book_of r.ledger after)
 
-outcome : (l : Ledger) (text list : Bor (List ℕ)) (r : Replayed) (after : List ℕ) → Replays l text list r after
+outcome : (l : Ledger) (text : Bor (List ℕ)) (list : MutBor (List ℕ)) (r : Replayed) (after : List ℕ) → Replays l text list r after
     → outcome_of r after ≡ replayed text.now (book_of l list.now)
 outcome l text list r after g = ap (outcome_of r) (sym g.1.1.1) ∙ g.1.1.0
 
 -- by what the text and the list are
-outcome_at : (l : Ledger) (text list : Bor (List ℕ)) (r : Replayed) (after : List ℕ) {t w : List ℕ} → text.now ≡ t → list.now ≡ w
+outcome_at : (l : Ledger) (text : Bor (List ℕ)) (list : MutBor (List ℕ)) (r : Replayed) (after : List ℕ) {t w : List ℕ} → text.now ≡ t → list.now ≡ w
     → Replays l text list r after → outcome_of r after ≡ replayed t (book_of l w)
 outcome_at l text list r after e f g = outcome l text list r after g ∙ ap₂ (λ (t w : List ℕ). replayed t (book_of l w)) e f
 
-pub from_new : (text list : Bor (List ℕ)) (r : Replayed) (after : List ℕ) → FromNew text list r after
+pub from_new : (text : Bor (List ℕ)) (list : MutBor (List ℕ)) (r : Replayed) (after : List ℕ) → FromNew text list r after
     → outcome_of r after ≡ replayed text.now (fresh list.now)
 from_new text list r after g =
     outcome g.ledger text list r after g.replays
@@ -416,7 +416,7 @@ refused_form t c k why = (
     by none f no_line why = cc
     by (some m) f no_line why = absurd (no_line m (front_read t m f))
 
-kept : (l : Ledger) (text list : Bor (List ℕ)) (r : Replayed) (after : List ℕ) (k : ℕ) (p : Parted text.now)
+kept : (l : Ledger) (text : Bor (List ℕ)) (list : MutBor (List ℕ)) (r : Replayed) (after : List ℕ) (k : ℕ) (p : Parted text.now)
     → told_verdict r.verdict ≡ refused k → r.line ≡ following r.ledger.lines
     → replayed (written_all p.lines) (book_of l list.now) ≡ (accepted, 0, book_of r.ledger after)
     → taken (front p.rest) (book_of r.ledger after) ≡ refused k → KeptLines l text list r after k

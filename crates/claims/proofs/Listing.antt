@@ -7,7 +7,7 @@ use native.Mathlib.Omega.{arith}
 use lib.ListN.{length, take, drop}
 use lib.Seq.{take-append_seam}
 use borrow.Author.Tests.{le-leb, lt-leb}
-use denote.Ref.{Bor}
+use Rattle.std.specs.Borrow.{Bor, MutBor}
 use Rattle.bits.specs.Every.{Every}
 use Rattle.bits.proofs.Memory.{over_front}
 use Rattle.table.specs.Answers.{Answer, given, refused}
@@ -34,7 +34,7 @@ module _ (rules : Rules) (frame : ℕ) (stream : Bor (List ℕ)) where
   all = listing_of rules frame stream.now
 
   -- the two contracts, of what is told
-  lists : (out : Bor (List ℕ)) (a : Answer ℕ) (after : List ℕ) → Lists rules frame stream out a after → ◌≡◌ {A = Answer ℕ × List ℕ} (a, after) (into all out.now)
+  lists : (out : MutBor (List ℕ)) (a : Answer ℕ) (after : List ℕ) → Lists rules frame stream out a after → ◌≡◌ {A = Answer ℕ × List ℕ} (a, after) (into all out.now)
   lists out a after l =
       let g = l.admitted.1.1 in
       ap (λ (x : Answer ℕ). (x, after)) (sym l.told) ∙ ap (λ (o : List ℕ). (told_listing l.answer, o)) (sym g.1) ∙ g.0
@@ -60,7 +60,7 @@ module _ (rules : Rules) (frame : ℕ) (stream : Bor (List ℕ)) where
   }
 
   -- what stands at the front, where the writer answers a length
-  front : (out : Bor (List ℕ)) (n : ℕ) (after : List ℕ) → Lists rules frame stream out (given n) after → take n after ≡ all
+  front : (out : MutBor (List ℕ)) (n : ℕ) (after : List ℕ) → Lists rules frame stream out (given n) after → take n after ≡ all
   front out n after l = by (dec_le (length all) (length out.now))
     where
       by : Dec (length all ≤ length out.now) → take n after ≡ all

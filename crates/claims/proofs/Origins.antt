@@ -25,7 +25,7 @@ use Rattle.build.specs.Records.{Rec, held_by, frameless, packed_at, slots_of}
 use Rattle.build.specs.Told.{told_handed}
 use Rattle.build.specs.declared.handed.Handed.{Handed}
 use Rattle.build.specs.declared.record.Record.{Record}
-use Rattle.build.proofs.AsRecords.{five_front, is_command, no_record}
+use Rattle.build.proofs.AsRecords.{five_front, is_command, no_record_is}
 use Rattle.build.proofs.Equal.{equal_self, equal_lists_built_alike}
 use Rattle.lent.specs.Records.{items_of}
 use Rattle.lent.proofs.Packing.{answers_as_packed}
@@ -107,7 +107,7 @@ record_there rules frame stream at r e = record {
   of_command = record_says rules frame stream at r e;
   defined = e;
   none = λ n.
-      ap (λ x. x.1) e ∙ sym (no_record (length_of rules) stream.now frame at (told_step r.step) (sym (ap (λ x. x.0) e)) (not_command (told_step r.step) n));
+      ap (λ x. x.1) e ∙ sym (no_record_is (length_of rules) stream.now frame at (told_step r.step) (sym (ap (λ x. x.0) e)) (not_command (told_step r.step) n));
 }
 
 -- ---- in a build

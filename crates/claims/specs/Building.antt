@@ -1,6 +1,6 @@
 -- What the builds answer and leave in lent memory: all that their contracts admit (RULES: D1, D3d to D3f, B1 to B4).
 use Rattle.std.specs.Prelude.{ℕ, ◌<◌, ◌≤◌, List, map, ◌↔◌, ◌≡◌, length, take, drop}
-use Rattle.std.specs.Borrow.{Bor}
+use Rattle.std.specs.Borrow.{Bor, MutBor}
 use contract.Lifetimes.{Lfts}
 use Rattle.bits.specs.Bits.{Byte}
 use Rattle.bits.specs.Every.{Every}
@@ -35,20 +35,20 @@ Builder = Rules → List Item → List ℕ → Built → List ℕ → Type 2
 
 -- `build_mac_commands`, told by the slots that it was given: over which memory, what may be answered, and the memory then
 pub data SlotsBuilt (rules : Rules) : List ℕ → List ℕ → Built → List ℕ → Type 2 where
-  built : (slots out : Bor (List ℕ)) (r : BuildAnswer) (after : List ℕ)
+  built : (slots : Bor (List ℕ)) (out : MutBor (List ℕ)) (r : BuildAnswer) (after : List ℕ)
       → GivesWith (λ s. s.1.1.0.now) build_mac_commands.Post (rules, (slots, (out, tt))) r after
       → SlotsBuilt rules slots.now out.now (told_build r) after
 
 -- `build_records`, told by the record structs in its slice
 pub data StructsBuilt (rules : Rules) : List Record → List ℕ → Built → List ℕ → Type 2 where
-  built : (records : Bor (List Record)) (out : Bor (List ℕ)) (r : BuildAnswer) (κs : Lfts 2) (exit : Rules × (Bor (List Record) × (Bor (List ℕ) × Unit)))
-      → Admits build_records.ended (λ M 𝓤. build_records.clauses 𝓤) κs (rules, (records, (out, tt))) r exit
+  built : (records : Bor (List Record)) (out : MutBor (List ℕ)) (r : BuildAnswer) (κs : Lfts 2) (exit : Rules × (Bor (List Record) × (MutBor (List ℕ) × Unit)))
+      → Admits build_records.ended (λ M 𝓤 𝓛. build_records.clauses 𝓛) κs (rules, (records, (out, tt))) r exit
       → StructsBuilt rules records.now out.now (told_build r) exit.1.1.0.now
 
 -- `build_four`, told by those in its array
 pub data FourBuilt (rules : Rules) : List Record → List ℕ → Built → List ℕ → Type 2 where
-  built : (records : List Record) (out : Bor (List ℕ)) (r : BuildAnswer) (κs : Lfts 1) (exit : Rules × (List Record × (Bor (List ℕ) × Unit)))
-      → Admits build_four.ended (λ M 𝓤. build_four.clauses 𝓤) κs (rules, (records, (out, tt))) r exit
+  built : (records : List Record) (out : MutBor (List ℕ)) (r : BuildAnswer) (κs : Lfts 1) (exit : Rules × (List Record × (MutBor (List ℕ) × Unit)))
+      → Admits build_four.ended (λ M 𝓤 𝓛. build_four.clauses 𝓛) κs (rules, (records, (out, tt))) r exit
       → FourBuilt rules records out.now (told_build r) exit.1.1.0.now
 
 -- `mac_commands_len` and `records_len`: what may be answered
@@ -57,7 +57,7 @@ pub data SlotsLength (rules : Rules) : List ℕ → Built → Type 2 where
 
 pub data StructsLength (rules : Rules) : List Record → Built → Type 2 where
   asked : (records : Bor (List Record)) (r : BuildAnswer) (κs : Lfts 1) (exit : Rules × (Bor (List Record) × Unit))
-      → Admits records_len.ended (λ M 𝓤. records_len.clauses 𝓤) κs (rules, (records, tt)) r exit → StructsLength rules records.now (told_build r)
+      → Admits records_len.ended (λ M 𝓤 𝓛. records_len.clauses 𝓛) κs (rules, (records, tt)) r exit → StructsLength rules records.now (told_build r)
 
 -- the same, told by the list of items that the slots or the records are
 pub data FromSlots (rules : Rules) : List Item → List ℕ → Built → List ℕ → Type 2 where

@@ -1,7 +1,7 @@
 -- The contracts of the functions that are proved by hand admit exactly the outcomes that their definitions say: no other, and all of these, so that what
 -- is claimed of admitted outcomes (Outcomes.antt) is claimed of something.
 use Rattle.std.specs.Prelude.{ℕ, List, ◌≡◌}
-use Rattle.std.specs.Borrow.{Bor}
+use Rattle.std.specs.Borrow.{Bor, MutBor}
 use contract.Lifetimes.{Lfts}
 use Rattle.table.specs.Answers.{Answer}
 use Rattle.table.specs.Table.{length_of}
@@ -35,27 +35,27 @@ Exactly A B = (A → B) × (B → A)
 
 pub record ByHand : Type 2 where
   pub new : (κs : Lfts 1) (s : Bor (List ℕ)) (rules : Rules) (it : MacCommandIterator) (exit : _)
-      → Exactly (Admits new.ended (λ M 𝓤. new.clauses 𝓤) κs (s, (rules, tt)) it exit) (it ≡ fresh s rules)
+      → Exactly (Admits new.ended (λ M 𝓤 𝓛. new.clauses 𝓛) κs (s, (rules, tt)) it exit) (it ≡ fresh s rules)
   pub parse_up : (κs : Lfts 1) (s : Bor (List ℕ)) (it : MacCommandIterator) (exit : _)
-      → Exactly (Admits parse_uplink.ended (λ M 𝓤. parse_uplink.clauses 𝓤) κs (s, tt) it exit) (it ≡ fresh s sent_up)
+      → Exactly (Admits parse_uplink.ended (λ M 𝓤 𝓛. parse_uplink.clauses 𝓛) κs (s, tt) it exit) (it ≡ fresh s sent_up)
   pub parse_down : (κs : Lfts 1) (s : Bor (List ℕ)) (it : MacCommandIterator) (exit : _)
-      → Exactly (Admits parse_downlink.ended (λ M 𝓤. parse_downlink.clauses 𝓤) κs (s, tt) it exit) (it ≡ fresh s sent_down)
-  pub next : (κs : Lfts 2) (it : Bor MacCommandIterator) (r : Step) (exit : Bor MacCommandIterator × Unit)
-      → Exactly (Admits next.ended (λ M 𝓤. next.clauses 𝓤) κs (it, tt) r exit)
+      → Exactly (Admits parse_downlink.ended (λ M 𝓤 𝓛. parse_downlink.clauses 𝓛) κs (s, tt) it exit) (it ≡ fresh s sent_down)
+  pub next : (κs : Lfts 2) (it : MutBor MacCommandIterator) (r : Step) (exit : MutBor MacCommandIterator × Unit)
+      → Exactly (Admits next.ended (λ M 𝓤 𝓛. next.clauses 𝓛) κs (it, tt) r exit)
       (◌≡◌ {A = Answer (Found Heading) × MacCommandIterator} (told_step r, exit.0.now) (nexted it.now))
-  pub next_record : (κs : Lfts 2) (it : Bor MacCommandIterator) (frame : ℕ) (r : Handed) (exit : Bor MacCommandIterator × (ℕ × Unit))
-      → Exactly (Admits next_record.ended (λ M 𝓤. next_record.clauses 𝓤) κs (it, (frame, tt)) r exit)
+  pub next_record : (κs : Lfts 2) (it : MutBor MacCommandIterator) (frame : ℕ) (r : Handed) (exit : MutBor MacCommandIterator × (ℕ × Unit))
+      → Exactly (Admits next_record.ended (λ M 𝓤 𝓛. next_record.clauses 𝓛) κs (it, (frame, tt)) r exit)
       (◌≡◌ {A = (Answer (Found Heading) × Record) × MacCommandIterator} (told_handed r, exit.0.now) (nexted_record frame it.now))
   pub nth_step : (κs : Lfts 1) (rules : Rules) (s : Bor (List ℕ)) (n : ℕ) (r : Step) (exit : Rules × (Bor (List ℕ) × (ℕ × Unit)))
-      → Exactly (Admits nth_step.ended (λ M 𝓤. nth_step.clauses 𝓤) κs (rules, (s, (n, tt))) r exit) (told_step r ≡ nth_answer (length_of rules) s.now n)
+      → Exactly (Admits nth_step.ended (λ M 𝓤 𝓛. nth_step.clauses 𝓛) κs (rules, (s, (n, tt))) r exit) (told_step r ≡ nth_answer (length_of rules) s.now n)
   pub records_len : (κs : Lfts 1) (rules : Rules) (records : Bor (List Record)) (r : BuildAnswer) (exit : Rules × (Bor (List Record) × Unit))
-      → Exactly (Admits records_len.ended (λ M 𝓤. records_len.clauses 𝓤) κs (rules, (records, tt)) r exit)
+      → Exactly (Admits records_len.ended (λ M 𝓤 𝓛. records_len.clauses 𝓛) κs (rules, (records, tt)) r exit)
       (told_build r ≡ total_of (length_of rules) (items_of records.now))
-  pub build_records : (κs : Lfts 2) (rules : Rules) (records : Bor (List Record)) (out : Bor (List ℕ)) (r : BuildAnswer)
-      (exit : Rules × (Bor (List Record) × (Bor (List ℕ) × Unit)))
-      → Exactly (Admits build_records.ended (λ M 𝓤. build_records.clauses 𝓤) κs (rules, (records, (out, tt))) r exit)
+  pub build_records : (κs : Lfts 2) (rules : Rules) (records : Bor (List Record)) (out : MutBor (List ℕ)) (r : BuildAnswer)
+      (exit : Rules × (Bor (List Record) × (MutBor (List ℕ) × Unit)))
+      → Exactly (Admits build_records.ended (λ M 𝓤 𝓛. build_records.clauses 𝓛) κs (rules, (records, (out, tt))) r exit)
       (◌≡◌ {A = Built × List ℕ} (told_build r, exit.1.1.0.now) (build_of (length_of rules) (items_of records.now) out.now))
-  pub build_four : (κs : Lfts 1) (rules : Rules) (records : List Record) (out : Bor (List ℕ)) (r : BuildAnswer)
-      (exit : Rules × (List Record × (Bor (List ℕ) × Unit)))
-      → Exactly (Admits build_four.ended (λ M 𝓤. build_four.clauses 𝓤) κs (rules, (records, (out, tt))) r exit)
+  pub build_four : (κs : Lfts 1) (rules : Rules) (records : List Record) (out : MutBor (List ℕ)) (r : BuildAnswer)
+      (exit : Rules × (List Record × (MutBor (List ℕ) × Unit)))
+      → Exactly (Admits build_four.ended (λ M 𝓤 𝓛. build_four.clauses 𝓛) κs (rules, (records, (out, tt))) r exit)
       (◌≡◌ {A = Built × List ℕ} (told_build r, exit.1.1.0.now) (build_of (length_of rules) (items_of records) out.now))

@@ -1,6 +1,6 @@
 -- What a reader of a stream is handed out, through each of the public entries: all that their contracts admit (RULES: D3, W7).
 use Rattle.std.specs.Prelude.{ℕ, ◌+◌, List, [], ◌∷◌, ◌++◌, map, ◌≡◌, length}
-use Rattle.std.specs.Borrow.{Bor}
+use Rattle.std.specs.Borrow.{Bor, MutBor}
 use contract.Lifetimes.{Lfts}
 use Rattle.table.specs.Answers.{Answer, given, refused}
 use Rattle.table.specs.declared.rules.Rules.{Rules}
@@ -81,13 +81,13 @@ downlink_steps stream = by_offsets (DownlinkAsked stream)
 
 -- `MacCommandIterator`: made by `new` or by a parse function, asked by `next`, with `payload_at` for the payload
 pub data Made (stream : Bor (List ℕ)) : Rules → MacCommandIterator → Type 2 where
-  by_new : {rules : Rules} {it : MacCommandIterator} (κs : Lfts 1) (exit : _) → Admits new.ended (λ M 𝓤. new.clauses 𝓤) κs (stream, (rules, tt)) it exit → Made stream rules it
-  parsed_up : {it : MacCommandIterator} (κs : Lfts 1) (exit : _) → Admits parse_uplink.ended (λ M 𝓤. parse_uplink.clauses 𝓤) κs (stream, tt) it exit → Made stream sent_up it
-  parsed_down : {it : MacCommandIterator} (κs : Lfts 1) (exit : _) → Admits parse_downlink.ended (λ M 𝓤. parse_downlink.clauses 𝓤) κs (stream, tt) it exit → Made stream sent_down it
+  by_new : {rules : Rules} {it : MacCommandIterator} (κs : Lfts 1) (exit : _) → Admits new.ended (λ M 𝓤 𝓛. new.clauses 𝓛) κs (stream, (rules, tt)) it exit → Made stream rules it
+  parsed_up : {it : MacCommandIterator} (κs : Lfts 1) (exit : _) → Admits parse_uplink.ended (λ M 𝓤 𝓛. parse_uplink.clauses 𝓛) κs (stream, tt) it exit → Made stream sent_up it
+  parsed_down : {it : MacCommandIterator} (κs : Lfts 1) (exit : _) → Admits parse_downlink.ended (λ M 𝓤 𝓛. parse_downlink.clauses 𝓛) κs (stream, tt) it exit → Made stream sent_down it
 
 pub data NextAsked : MacCommandIterator → Answer (Found Cmd) → MacCommandIterator → Type 2 where
-  asked : (it : Bor MacCommandIterator) (r : Step) (p : Bor (List ℕ)) (κs : Lfts 2) (exit : Bor MacCommandIterator × Unit)
-      → Admits next.ended (λ M 𝓤. next.clauses 𝓤) κs (it, tt) r exit
+  asked : (it : MutBor MacCommandIterator) (r : Step) (p : Bor (List ℕ)) (κs : Lfts 2) (exit : MutBor MacCommandIterator × Unit)
+      → Admits next.ended (λ M 𝓤 𝓛. next.clauses 𝓛) κs (it, tt) r exit
       → Gives payload_at.Post (it.now.rules, (it.now.«data», (it.now.index, tt))) p
       → NextAsked it.now (with_payload (told_step r) p.now) exit.0.now
 
@@ -109,8 +109,8 @@ record_steps rules frame stream = by_offsets (RecordAsked rules frame stream)
 
 -- `next_record`, for a frame number
 pub data NextRecordAsked (frame : ℕ) : MacCommandIterator → Answer (Found Record) → MacCommandIterator → Type 2 where
-  asked : (it : Bor MacCommandIterator) (r : Handed) (κs : Lfts 2) (exit : Bor MacCommandIterator × (ℕ × Unit))
-      → Admits next_record.ended (λ M 𝓤. next_record.clauses 𝓤) κs (it, (frame, tt)) r exit
+  asked : (it : MutBor MacCommandIterator) (r : Handed) (κs : Lfts 2) (exit : MutBor MacCommandIterator × (ℕ × Unit))
+      → Admits next_record.ended (λ M 𝓤 𝓛. next_record.clauses 𝓛) κs (it, (frame, tt)) r exit
       → NextRecordAsked frame it.now (with_record r) exit.0.now
 
 abbrev pub record_iterator : Rules → (frame : ℕ) → Bor (List ℕ) → Front Record

@@ -2,7 +2,7 @@
 -- with the entries that were made, and what with any others. The walk's list is the one that every function of D3 hands out (`defined`, Owning.antt);
 -- that of a walk from an entry is the one along which steps from there lead (`steps_lead`).
 use Rattle.std.specs.Prelude.{ℕ, zero, suc, ◌+◌, ◌*◌, ◌/◌, ◌%◌, ◌≤◌, ◌<◌, List, [], ◌∷◌, ◌≡◌, length, get_or, take, drop}
-use Rattle.std.specs.Borrow.{Bor}
+use Rattle.std.specs.Borrow.{Bor, MutBor}
 use Rattle.table.specs.Answers.{Answer, given, refused}
 use Rattle.table.specs.Table.{length_of}
 use Rattle.table.specs.declared.rules.Direction.{Direction}
@@ -24,7 +24,7 @@ use Rattle.claims.specs.Origins.{Says}
 use Rattle.claims.specs.Outcomes.{Gives, GivesWith}
 
 -- whatever the making may answer, and how it may leave the numbers
-abbrev pub Makes : Rules → (stream numbers : Bor (List ℕ)) → EntriesAnswer → (after : List ℕ) → Type 0
+abbrev pub Makes : Rules → (stream : Bor (List ℕ)) (numbers : MutBor (List ℕ)) → EntriesAnswer → (after : List ℕ) → Type 0
 Makes rules stream numbers r after = GivesWith (λ s. s.1.1.0.now) make_entries.Post (rules, (stream, (numbers, tt))) r after
 
 -- whatever may be answered to who asks for command n
@@ -71,7 +71,7 @@ pub record OwnTells (cmds : List Placed) (n : ℕ) (a : Answer Spot) : Type 0 wh
 pub record MadeOf (rules : Rules) (bytes entries : List ℕ) : Type 0 where
   pub stream : Bor (List ℕ)
   pub same : stream.now ≡ bytes
-  pub numbers : Bor (List ℕ)
+  pub numbers : MutBor (List ℕ)
   pub answer : EntriesAnswer
   pub after : List ℕ
   pub total : ℕ
@@ -107,7 +107,7 @@ pub record RecordIs (rules : Rules) (stream : Bor (List ℕ)) (x : Spot) (frame 
 
 -- a stream of a direction, lent numbers, the answer to the making, and the numbers then
 pub record MakesAs (d : Direction) (bytes before : List ℕ) (a : Answer ℕ) (after : List ℕ) : Type 0 where
-  pub so : (stream numbers : Bor (List ℕ)) → stream.now ≡ bytes → numbers.now ≡ before → (r : EntriesAnswer) (left : List ℕ)
+  pub so : (stream : Bor (List ℕ)) (numbers : MutBor (List ℕ)) → stream.now ≡ bytes → numbers.now ≡ before → (r : EntriesAnswer) (left : List ℕ)
       → Makes (record { direction = d }) stream numbers r left → (told_entries r ≡ a) × (left ≡ after)
 
 -- a stream of a direction, entries, a command's number, and the answer
@@ -174,7 +174,7 @@ pub record EmptyStream : Type 0 where
 -- ---- all of it
 
 pub record JumpsTell : Type 0 where
-  pub making : (rules : Rules) (stream numbers : Bor (List ℕ)) (r : EntriesAnswer) (after : List ℕ) → Makes rules stream numbers r after
+  pub making : (rules : Rules) (stream : Bor (List ℕ)) (numbers : MutBor (List ℕ)) (r : EntriesAnswer) (after : List ℕ) → Makes rules stream numbers r after
       → MakingTells (walk_of (length_of rules) stream.now).cmds (length stream.now) numbers.now (told_entries r) after
   pub own : (rules : Rules) (stream entries : Bor (List ℕ)) → MadeOf rules stream.now entries.now → (n : ℕ) (r : JumpAnswer) → Asks rules stream entries n r
       → OwnTells (walk_of (length_of rules) stream.now).cmds n (told_jump r)

@@ -1,7 +1,7 @@
 -- A refusal leaves things as they were (RULES: D1): lent memory, an iterator, a mask, a creator, of every outcome that the contracts admit. A checked
 -- argument is refused with its number where it is bad (RULES: R5, R7 to R12), and where it is not, what was asked for is written and nothing else.
 use Rattle.std.specs.Prelude.{ℕ, ◌+◌, ◌*◌, ◌/◌, ◌%◌, ◌<◌, ◌≤◌, Bool, false, List, ◌≡◌, ℤ, length, set}
-use Rattle.std.specs.Borrow.{Bor}
+use Rattle.std.specs.Borrow.{Bor, MutBor}
 use Rattle.bits.specs.Memory.{over}
 use Rattle.table.specs.Answers.{Answer, Consent, refused, accepted}
 use Rattle.table.specs.Told.{told_verdict}
@@ -79,9 +79,9 @@ pub record RefusalsKeep : Type 2 where
   pub next : (it : MacCommandIterator) (a : Answer (Found Cmd)) (it' : MacCommandIterator) (n : ℕ) → NextAsked it a it' → a ≡ refused n → it' ≡ it
   pub next_record : (frame : ℕ) (it : MacCommandIterator) (a : Answer (Found Record)) (it' : MacCommandIterator) (n : ℕ) → NextRecordAsked frame it a it' → a ≡ refused n → it' ≡ it
   -- the memory that one record is written to, or packed into: where it has no room, nothing is written, and the offset stays
-  pub write : (r : Record) (out : Bor (List ℕ)) (at next : ℕ) (after : List ℕ) → GivesWith (λ s. s.1.0.now) write.Post (r, (out, (at, tt))) next after
+  pub write : (r : Record) (out : MutBor (List ℕ)) (at next : ℕ) (after : List ℕ) → GivesWith (λ s. s.1.0.now) write.Post (r, (out, (at, tt))) next after
       → Written out.now at (held_by r) next after
-  pub pack : (r : Record) (slots : Bor (List ℕ)) (i : ℕ) (after : List ℕ) → GivesWith (λ s. s.1.0.now) pack.Post (r, (slots, (i, tt))) tt after
+  pub pack : (r : Record) (slots : MutBor (List ℕ)) (i : ℕ) (after : List ℕ) → GivesWith (λ s. s.1.0.now) pack.Post (r, (slots, (i, tt))) tt after
       → (length slots.now / 8 ≤ i → after ≡ slots.now) × (after ≡ packed_at slots.now i (held_by r))
   -- a mask: a bank or a channel that it has not
   pub bank_2 : (m : ChannelMask2) (i v : ℕ) (r : ChannelMask2Answer) → Gives set_bank_2.Post (m, (i, (v, tt))) r → Checked (length m.0 ≤ i) 5 r.verdict m (record { 0 = set m.0 i v }) r.mask

@@ -4,7 +4,7 @@ use Rattle.std.specs.Prelude.{ℕ, ◌+◌, ◌*◌, ◌<◌, Bool, true, false,
 use Prim.Native.String.{String}
 use mathlib.Core.List.{List, [], ◌∷◌, ◌++◌, reverse, head?}
 use Rattle.std.proofs.Math.Option.{Option, none, some}
-use Rattle.std.specs.Borrow.{Bor}
+use Rattle.std.specs.Borrow.{Bor, MutBor}
 use Rattle.bits.specs.Every.{Every}
 use Rattle.table.specs.Answers.{Consent, accepted, refused}
 use Rattle.table.specs.Told.{told_verdict}
@@ -76,11 +76,11 @@ use Rattle.claims.specs.Outcomes.{Gives, GivesWith}
 -- ---- what the functions may answer
 
 -- a text is replayed into a ledger and a lent list: the outcome may be this, and the list be left so
-abbrev pub Replays : Ledger → (text list : Bor (List ℕ)) → Replayed → (after : List ℕ) → Type 0
+abbrev pub Replays : Ledger → (text : Bor (List ℕ)) (list : MutBor (List ℕ)) → Replayed → (after : List ℕ) → Type 0
 Replays l text list r after = GivesWith (λ s. s.1.1.0.now) replay_trace.Post (l, (text, (list, tt))) r after
 
 -- the same into a new ledger
-pub record FromNew (text list : Bor (List ℕ)) (r : Replayed) (after : List ℕ) : Type 0 where
+pub record FromNew (text : Bor (List ℕ)) (list : MutBor (List ℕ)) (r : Replayed) (after : List ℕ) : Type 0 where
   pub ledger : Ledger
   pub new : Gives new.Post tt ledger
   pub replays : Replays ledger text list r after
@@ -139,14 +139,14 @@ pub record TraceText (t : List ℕ) : Type 0 where
   pub text_is : t ≡ written_all lines
 
 -- a text that is accepted, replayed into a new ledger
-pub record WholeText (text list : Bor (List ℕ)) (r : Replayed) (after : List ℕ) : Type 0 where
+pub record WholeText (text : Bor (List ℕ)) (list : MutBor (List ℕ)) (r : Replayed) (after : List ℕ) : Type 0 where
   pub text_is : TraceText text.now
   pub line : r.line ≡ 0
   pub tells : Tells text_is.lines list.now r.ledger after
 
 abbrev pub WholeTells : Type 0
 WholeTells =
-    (text list : Bor (List ℕ)) (r : Replayed) (after : List ℕ) → FromNew text list r after → told_verdict r.verdict ≡ accepted
+    (text : Bor (List ℕ)) (list : MutBor (List ℕ)) (r : Replayed) (after : List ℕ) → FromNew text list r after → told_verdict r.verdict ≡ accepted
     → WholeText text list r after
 
 -- ---- refusals
@@ -168,13 +168,13 @@ pub record FirstFault (t lent : List ℕ) (k n : ℕ) (b : Book) : Type 0 where
   pub why : fault_of (room_in lent) n (front at.rest) (reverse (events 0 at.lines)) ≡ some k
 
 -- a text is refused exactly so, and accepted exactly if no line of it is at fault. D1: ledger and list tell of the lines before that line
-pub record Decided (text list : Bor (List ℕ)) (r : Replayed) (after : List ℕ) : Type 0 where
+pub record Decided (text : Bor (List ℕ)) (list : MutBor (List ℕ)) (r : Replayed) (after : List ℕ) : Type 0 where
   pub refuses : (k : ℕ) → (told_verdict r.verdict ≡ refused k) ↔ FirstFault text.now list.now k r.line (book_of r.ledger after)
   pub accepts : (told_verdict r.verdict ≡ accepted) ↔ ((k n : ℕ) (b : Book) → FirstFault text.now list.now k n b → ⊥)
   pub tells : (k : ℕ) (f : FirstFault text.now list.now k r.line (book_of r.ledger after)) → Tells f.at.lines list.now r.ledger after
 
 abbrev pub RefusesExactly : Type 0
-RefusesExactly = (text list : Bor (List ℕ)) (r : Replayed) (after : List ℕ) → FromNew text list r after → Decided text list r after
+RefusesExactly = (text : Bor (List ℕ)) (list : MutBor (List ℕ)) (r : Replayed) (after : List ℕ) → FromNew text list r after → Decided text list r after
 
 -- two outcomes are the same: the ledgers, each with its list, are one to whoever asks
 pub record Same (r : Replayed) (after : List ℕ) (s : Replayed) (after' : List ℕ) : Type 0 where
@@ -183,15 +183,15 @@ pub record Same (r : Replayed) (after : List ℕ) (s : Replayed) (after' : List 
   pub book : book_of r.ledger after ≡ book_of s.ledger after'
 
 -- D1, from any ledger: lines, and then the one that is refused
-pub record KeptLines (l : Ledger) (text list : Bor (List ℕ)) (r : Replayed) (after : List ℕ) (k : ℕ) : Type 0 where
+pub record KeptLines (l : Ledger) (text : Bor (List ℕ)) (list : MutBor (List ℕ)) (r : Replayed) (after : List ℕ) (k : ℕ) : Type 0 where
   pub at : Parted text.now
   -- its number is the next
   pub line : r.line ≡ following r.ledger.lines
   -- the lines before it, replayed alone into the same, are accepted, and leave the same ledger and list
-  pub before : (alone lent : Bor (List ℕ)) (s : Replayed) (after' : List ℕ) → alone.now ≡ written_all at.lines → lent.now ≡ list.now
+  pub before : (alone : Bor (List ℕ)) (lent : MutBor (List ℕ)) (s : Replayed) (after' : List ℕ) → alone.now ≡ written_all at.lines → lent.now ≡ list.now
       → Replays l alone lent s after' → (told_verdict s.verdict ≡ accepted) × (book_of r.ledger after ≡ book_of s.ledger after')
   -- what is left, replayed into these, is refused at once, with the same number, and leaves them as they are
-  pub again : (left lent : Bor (List ℕ)) (s : Replayed) (after' : List ℕ) → left.now ≡ at.rest → lent.now ≡ after
+  pub again : (left : Bor (List ℕ)) (lent : MutBor (List ℕ)) (s : Replayed) (after' : List ℕ) → left.now ≡ at.rest → lent.now ≡ after
       → Replays r.ledger left lent s after' → Same r after s after'
   pub why : taken (front at.rest) (book_of r.ledger after) ≡ refused k
   -- for its form, exactly if what is left begins with no lawful line
@@ -199,23 +199,23 @@ pub record KeptLines (l : Ledger) (text list : Bor (List ℕ)) (r : Replayed) (a
 
 abbrev pub RefusedLineKeeps : Type 0
 RefusedLineKeeps =
-    (l : Ledger) (text list : Bor (List ℕ)) (r : Replayed) (after : List ℕ) (k : ℕ) → Replays l text list r after
+    (l : Ledger) (text : Bor (List ℕ)) (list : MutBor (List ℕ)) (r : Replayed) (after : List ℕ) (k : ℕ) → Replays l text list r after
     → told_verdict r.verdict ≡ refused k → KeptLines l text list r after k
 
 -- ---- the text's form
 
 -- what is accepted, by any ledger, is the text of lawful lines, and a text is that of one list of lines only
 pub record FormIs : Type 0 where
-  pub accepted_is : (l : Ledger) (text list : Bor (List ℕ)) (r : Replayed) (after : List ℕ) → Replays l text list r after
+  pub accepted_is : (l : Ledger) (text : Bor (List ℕ)) (list : MutBor (List ℕ)) (r : Replayed) (after : List ℕ) → Replays l text list r after
       → told_verdict r.verdict ≡ accepted → TraceText text.now
   pub one : (ls ms : List TraceLine) → Every Lawful ls → Every Lawful ms → written_all ls ≡ written_all ms → ls ≡ ms
 
 -- ---- line by line
 
 -- a text that is accepted, and then another into what it left: two calls
-pub record InTwo (l : Ledger) (text more list : Bor (List ℕ)) (r : Replayed) (after : List ℕ) : Type 0 where
+pub record InTwo (l : Ledger) (text more : Bor (List ℕ)) (list : MutBor (List ℕ)) (r : Replayed) (after : List ℕ) : Type 0 where
   pub first : Replayed
-  pub left : Bor (List ℕ)
+  pub left : MutBor (List ℕ)
   pub one : Replays l text list first left.now
   pub whole : told_verdict first.verdict ≡ accepted
   pub two : Replays first.ledger more left r after
@@ -223,7 +223,7 @@ pub record InTwo (l : Ledger) (text more list : Bor (List ℕ)) (r : Replayed) (
 -- come to the same as one, of both texts joined: a capture can be replayed as it comes
 abbrev pub FedAsItComes : Type 0
 FedAsItComes =
-    (l : Ledger) (text more joined list lent : Bor (List ℕ)) (r s : Replayed) (after after' : List ℕ) → InTwo l text more list r after
+    (l : Ledger) (text more joined : Bor (List ℕ)) (list lent : MutBor (List ℕ)) (r s : Replayed) (after after' : List ℕ) → InTwo l text more list r after
     → joined.now ≡ text.now ++ more.now → lent.now ≡ list.now → Replays l joined lent s after' → Same r after s after'
 
 -- ledgers that are one as books, with their lists, are answered alike whatever is asked, and whatever is replayed into them comes to the same
@@ -231,7 +231,7 @@ pub record Alike (l m : Ledger) (list list' : List ℕ) : Type 0 where
   pub lists : list ≡ list'
   pub counts : (l.lines ≡ m.lines) × (l.listed ≡ m.listed)
   pub settings : (σ : Setting) (h g : Held) → Asks σ l h → Asks σ m g → h ≡ g
-  pub on : (text lent text' lent' : Bor (List ℕ)) (r s : Replayed) (after after' : List ℕ)
+  pub on : (text : Bor (List ℕ)) (lent : MutBor (List ℕ)) (text' : Bor (List ℕ)) (lent' : MutBor (List ℕ)) (r s : Replayed) (after after' : List ℕ)
       → text.now ≡ text'.now → lent.now ≡ list → lent'.now ≡ list' → Replays l text lent r after → Replays m text' lent' s after'
       → Same r after s after'
 
@@ -273,7 +273,7 @@ pub record ComesTo (e : Example) (r : Replayed) (after : List ℕ) : Type 0 wher
 
 abbrev pub Holds : Example → Type 0
 Holds e =
-    (text list : Bor (List ℕ)) (r : Replayed) (after : List ℕ) → text.now ≡ ascii e.text → list.now ≡ lent_nine → FromNew text list r after
+    (text : Bor (List ℕ)) (list : MutBor (List ℕ)) (r : Replayed) (after : List ℕ) → text.now ≡ ascii e.text → list.now ≡ lent_nine → FromNew text list r after
     → ComesTo e r after
 
 -- a parent by its line, frame and offset, its value, and its mark

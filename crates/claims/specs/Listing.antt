@@ -1,7 +1,7 @@
 -- The listing says what is read (RULES: L1 to L9, L11, L13, F3): of every outcome that the contracts of `write_listing` and `listing_len` admit.
 use Rattle.std.specs.Prelude.{ℕ, ◌<◌, ◌≤◌, List, [], ◌∷◌, ◌++◌, map, ◌≡◌, length, take, drop}
 use Prim.Native.String.{String}
-use Rattle.std.specs.Borrow.{Bor}
+use Rattle.std.specs.Borrow.{Bor, MutBor}
 use Rattle.bits.specs.Every.{Every}
 use Rattle.table.specs.Answers.{Answer, given, refused}
 use Rattle.table.specs.declared.rules.Direction.{Direction}
@@ -20,7 +20,7 @@ use Rattle.claims.specs.Handing.{ReadAs}
 use Rattle.claims.specs.Outcomes.{Gives, GivesWith}
 
 -- asked to list a stream in a frame into lent memory, the writer may answer so, and leave memory so
-pub record Lists (rules : Rules) (frame : ℕ) (stream out : Bor (List ℕ)) (a : Answer ℕ) (after : List ℕ) : Type 0 where
+pub record Lists (rules : Rules) (frame : ℕ) (stream : Bor (List ℕ)) (out : MutBor (List ℕ)) (a : Answer ℕ) (after : List ℕ) : Type 0 where
   pub answer : ListingAnswer
   pub admitted : GivesWith (λ s. s.1.1.1.0.now) write_listing.Post (rules, (frame, (stream, (out, tt)))) answer after
   pub told : told_listing answer ≡ a
@@ -35,9 +35,9 @@ pub record Sizes (rules : Rules) (frame : ℕ) (stream : Bor (List ℕ)) (a : An
 -- behind it stay (L7); else the answer is refusal 4, and memory is as it was (L8). Asked alone, the length is the same, and refusal 4 where no
 -- memory could hold the text (L9)
 pub record TextIs (rules : Rules) (frame : ℕ) (stream : Bor (List ℕ)) (t : List ℕ) : Type 0 where
-  pub room : (out : Bor (List ℕ)) (a : Answer ℕ) (after : List ℕ) → Lists rules frame stream out a after → length t ≤ length out.now
+  pub room : (out : MutBor (List ℕ)) (a : Answer ℕ) (after : List ℕ) → Lists rules frame stream out a after → length t ≤ length out.now
       → (a ≡ given (length t)) × (after ≡ t ++ drop (length t) out.now)
-  pub no_room : (out : Bor (List ℕ)) (a : Answer ℕ) (after : List ℕ) → Lists rules frame stream out a after → length out.now < length t
+  pub no_room : (out : MutBor (List ℕ)) (a : Answer ℕ) (after : List ℕ) → Lists rules frame stream out a after → length out.now < length t
       → (a ≡ refused 4) × (after ≡ out.now)
   pub sized : (a : Answer ℕ) → Sizes rules frame stream a → length t ≤ largest → a ≡ given (length t)
   pub too_long : (a : Answer ℕ) → Sizes rules frame stream a → largest < length t → a ≡ refused 4
@@ -59,7 +59,7 @@ pub record ReadAlike (rules : Rules) (s t : Bor (List ℕ)) : Type 2 where
 
 abbrev pub TextFixes : Type 2
 TextFixes =
-    (rules : Rules) (f g : ℕ) (s t o p : Bor (List ℕ)) (n : ℕ) (after after' : List ℕ)
+    (rules : Rules) (f g : ℕ) (s t : Bor (List ℕ)) (o p : MutBor (List ℕ)) (n : ℕ) (after after' : List ℕ)
     → Lists rules f s o (given n) after → Lists rules g t p (given n) after' → take n after ≡ take n after' → (f ≡ g) × ReadAlike rules s t
 
 -- ---- examples: a stream of a direction, in a frame, and its text

@@ -1,7 +1,7 @@
 -- Where a command came from (RULES: W7, B5): what the entries hand out as records along the walk of a stream, and that a build looks at no frame
 -- and no offset. Of every outcome that the contracts admit.
 use Rattle.std.specs.Prelude.{ℕ, List, [], ◌∷◌, map, ◌≡◌}
-use Rattle.std.specs.Borrow.{Bor}
+use Rattle.std.specs.Borrow.{Bor, MutBor}
 use contract.Lifetimes.{Lfts}
 use Rattle.bits.specs.Every.{Every}
 use Rattle.table.specs.Answers.{given}
@@ -74,9 +74,9 @@ pub record RecordThere (rules : Rules) (frame : ℕ) (stream : Bor (List ℕ)) (
   pub defined : told_handed r ≡ handed_at (length_of rules) frame stream.now at
 
 -- asked of an iterator, the record is the one at its index, and the iterator is then as `next` would leave it
-pub record RecordNext (frame : ℕ) (it : Bor MacCommandIterator) (r : Handed) (it' : MacCommandIterator) : Type 2 where
+pub record RecordNext (frame : ℕ) (it : MutBor MacCommandIterator) (r : Handed) (it' : MacCommandIterator) : Type 2 where
   pub there : RecordThere it.now.rules frame it.now.«data» it.now.index r
-  pub moved : (q : Step) (κs : Lfts 2) (exit : Bor MacCommandIterator × Unit) → Admits next.ended (λ M 𝓤. next.clauses 𝓤) κs (it, tt) q exit → it' ≡ exit.0.now
+  pub moved : (q : Step) (κs : Lfts 2) (exit : MutBor MacCommandIterator × Unit) → Admits next.ended (λ M 𝓤 𝓛. next.clauses 𝓛) κs (it, tt) q exit → it' ≡ exit.0.now
 
 -- one that was made of parts, of a command or of a creator came from no frame, and has no place in one
 pub record FromNoFrame (r : Record) : Type 0 where
@@ -108,14 +108,14 @@ pub record BuildsAlike (rules : Rules) (rs qs : List Record) : Type 2 where
 
 -- a record is packed into a slot without its frame and its offset
 abbrev pub PacksAlike : Type 0
-PacksAlike = (r q : Record) → held_by r ≡ held_by q → (s t : Bor (List ℕ)) → s.now ≡ t.now → (i : ℕ) (after after' : List ℕ)
+PacksAlike = (r q : Record) → held_by r ≡ held_by q → (s t : MutBor (List ℕ)) → s.now ≡ t.now → (i : ℕ) (after after' : List ℕ)
     → GivesWith (λ s. s.1.0.now) pack.Post (r, (s, (i, tt))) tt after → GivesWith (λ s. s.1.0.now) pack.Post (q, (t, (i, tt))) tt after' → after ≡ after'
 
 pub record OriginsTell : Type 2 where
   pub walked : (rules : Rules) (stream : Bor (List ℕ)) (frame : ℕ) → RecordsOfTheWalk rules stream frame
   pub there : (rules : Rules) (frame : ℕ) (stream : Bor (List ℕ)) (at : ℕ) (r : Handed) → Gives record_at.Post (rules, (frame, (stream, (at, tt)))) r → RecordThere rules frame stream at r
-  pub next_there : (frame : ℕ) (it : Bor MacCommandIterator) (r : Handed) (κs : Lfts 2) (exit : Bor MacCommandIterator × (ℕ × Unit))
-      → Admits next_record.ended (λ M 𝓤. next_record.clauses 𝓤) κs (it, (frame, tt)) r exit → RecordNext frame it r exit.0.now
+  pub next_there : (frame : ℕ) (it : MutBor MacCommandIterator) (r : Handed) (κs : Lfts 2) (exit : MutBor MacCommandIterator × (ℕ × Unit))
+      → Admits next_record.ended (λ M 𝓤 𝓛. next_record.clauses 𝓛) κs (it, (frame, tt)) r exit → RecordNext frame it r exit.0.now
   pub of_no_frame : MadeOfNoFrame
   -- lists that differ in frames and offsets only are equal, and equal lists are built alike
   pub uncounted : (rs qs : List Record) → map held_by rs ≡ map held_by qs → EqualLists (map held_by rs) (map held_by qs)

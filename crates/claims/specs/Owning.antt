@@ -1,6 +1,6 @@
 -- Each byte has one owner (RULES: D3a to D3c), and where steps lead (W8), said of what the public entries hand out.
 use Rattle.std.specs.Prelude.{ℕ, ◌+◌, ◌≤◌, ◌<◌, List, [], ◌∷◌, ◌++◌, ◌≡◌, length, take, drop}
-use Rattle.std.specs.Borrow.{Bor}
+use Rattle.std.specs.Borrow.{Bor, MutBor}
 use contract.Lifetimes.{Lfts}
 use Rattle.table.specs.Answers.{Answer, given}
 use Rattle.table.specs.Table.{length_of}
@@ -123,5 +123,5 @@ module _ (rules : Rules) (stream : Bor (List ℕ)) where
 
 -- `next` answers as `step_at` does at the iterator's index, length and all
 abbrev pub NextIsStep : Type 2
-NextIsStep = (it : Bor MacCommandIterator) (q r : Step) (κs : Lfts 2) (exit : Bor MacCommandIterator × Unit)
-    → Admits next.ended (λ M 𝓤. next.clauses 𝓤) κs (it, tt) q exit → Gives step-at.Post (it.now.rules, (it.now.«data», (it.now.index, tt))) r → q ≡ r
+NextIsStep = (it : MutBor MacCommandIterator) (q r : Step) (κs : Lfts 2) (exit : MutBor MacCommandIterator × Unit)
+    → Admits next.ended (λ M 𝓤 𝓛. next.clauses 𝓛) κs (it, tt) q exit → Gives step-at.Post (it.now.rules, (it.now.«data», (it.now.index, tt))) r → q ≡ r
