@@ -6,9 +6,9 @@ use native.Mathlib.Omega.{arith}
 use lib.ListN.{length, drop, drop_of_length-le}
 use Rattle.table.specs.Answers.{Answer, given, refused}
 use Rattle.walk.specs.Step.{Found, ended, command, stopped, found_at}
-use Rattle.walk.specs.Walk.{Rule, Cmd, Walk, size, walk_from}
+use Rattle.walk.specs.Walk.{Rule, Cmd, Walk, walk_from}
 use Rattle.walk.proofs.Laws.{walk_nil, walk_ends}
-use Rattle.walk.proofs.Steps.{Goes, Here, past, ends, goes, here, walk_goes, found_goes, found_command}
+use Rattle.walk.proofs.Steps.{Here, past, ends, goes, here, walk_goes, found_goes, found_command}
 use Rattle.timed_reads.specs.Fields.{worth, worths}
 
 -- a step gave no command

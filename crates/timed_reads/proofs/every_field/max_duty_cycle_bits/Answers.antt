@@ -1,0 +1,10 @@
+-- `max_duty_cycle_bits` meets its contract: the float is 1 / 2 ^ n, and no NaN. Assumes nothing.
+use mathlib.Core.Bool.{not}
+use mathlib.Core.Path.{sym, subst}
+use lib.Dec.{T}
+use lib.Ieee.{Float, is_nan}
+use Rattle.timed_reads.proofs.every_field.max_duty_cycle_bits.Goals as goal
+
+pub float_to_bits-result : goal.float_to_bits-result
+unfolding is_nan
+float_to_bits-result c = subst (λ (x : Float). T (not (is_nan x))) (sym c.max_duty_cycle.ensures) tt
