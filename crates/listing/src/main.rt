@@ -50,6 +50,7 @@ fn put_listing(rules: Rules, stream: &[u8], out: &mut [u8]) -> usize
 }
 
 // Puts what is printed for an input at the front of out, and answers how many bytes it has.
+#[tactic(auto, using(crate::proofs::Printing::for_none, crate::proofs::Printing::for_long, crate::proofs::Printing::for_down, crate::proofs::Printing::for_up, crate::proofs::Printing::for_other))]
 fn answer(input: &[u8], out: &mut [u8]) -> usize
     requires { 30645 ≤ length out.old }
     ensures { (result, out.new) ≡ at_front (printed_for input.now) out.old }
