@@ -3,32 +3,29 @@
 #![tactic(auto)]
 
 ghost use Rattle.std.specs.Prelude.{◌≡◌, ◌≤◌, length};
-ghost use Rattle.io.specs.Counts.{IsPrefixLen};
+ghost use Rattle.std.specs.Counts.{IsPrefixLen};
 ghost use Rattle.listings.specs.Listing.{listing_of};
 ghost use Rattle.listing.specs.Program.{at_front, bad_input, printed_for};
 
-use libc::{STDIN_FILENO, STDOUT_FILENO};
 use listings::{ListingAnswer, write_listing};
+use std::io;
+use std::io::{Read, Write};
 use table::{Direction, Rules};
 use text::put_bytes;
 
 // Reads to the input's end or the buffer's, however the pieces come, and answers how many bytes there were: none where a read failed, so
 // that no part of an input is taken for the whole. The buffer has room for the letter, the bytes, and one that is too many.
-fn read_input(buf: &mut [u8]) -> usize
+fn read_input(from: &mut impl Read, buf: &mut [u8]) -> usize
     requires { 1026 ≤ length buf.old }
     ensures { IsPrefixLen result buf.new }
 {
     let mut len: usize = 0;
     while len < buf.len() {
-        let got = libc::read(STDIN_FILENO, &mut buf[len..]);
-        if got < 0 {
-            return 0;
+        match from.read(&mut buf[len..]) {
+            Err(_) => return 0,
+            Ok(0) => return len,
+            Ok(n) => len += n,
         }
-        let n = io::count(got, &buf[len..]);
-        if n == 0 {
-            return len;
-        }
-        len += n;
     }
     len
 }
@@ -53,6 +50,7 @@ fn put_listing(rules: Rules, stream: &[u8], out: &mut [u8]) -> usize
 }
 
 // Puts what is printed for an input at the front of out, and answers how many bytes it has.
+#[tactic(auto, using(crate::proofs::Printing::for_none, crate::proofs::Printing::for_long, crate::proofs::Printing::for_down, crate::proofs::Printing::for_up, crate::proofs::Printing::for_other))]
 fn answer(input: &[u8], out: &mut [u8]) -> usize
     requires { 30645 ≤ length out.old }
     ensures { (result, out.new) ≡ at_front (printed_for input.now) out.old }
@@ -79,16 +77,16 @@ fn answer(input: &[u8], out: &mut [u8]) -> usize
     put_bad(out)
 }
 
-fn print(input: &[u8], out: &mut [u8])
+fn print(to: &mut impl Write, input: &[u8], out: &mut [u8]) -> io::Result<()>
     requires { 30645 ≤ length out.old }
 {
     let n = answer(input, out);
-    io::write_all(STDOUT_FILENO, &out[..n]);
+    to.write_all(&out[..n])
 }
 
-fn main() {
+fn main(rt: HostRuntime) -> io::Result<()> {
     let mut space = [0u8; 1026];
     let mut room = [0u8; 30645];
-    let n = read_input(&mut space);
-    print(&space[..n], &mut room);
+    let n = read_input(&mut rt.stdin(), &mut space);
+    print(&mut rt.stdout(), &space[..n], &mut room)
 }

@@ -113,6 +113,6 @@ fn answer_in(which: u8, input: &[u8], records: &mut [u8], out: &mut [u8]) -> usi
 }
 
 pub(crate) fn answer(which: u8, input: &[u8], out: &mut [u8]) -> usize {
-    let mut records = io::large_buffer();
+    let mut records = [0u8; 65536];
     answer_in(which, input, &mut records, out)
 }

@@ -21,8 +21,9 @@ mod streams;
 
 ghost use Rattle.std.specs.Prelude.{◌<◌};
 
-use libc::STDIN_FILENO;
 use line::{Asked, Line};
+use std::io;
+use std::io::Read;
 
 #[derive(Clone, Copy)]
 struct Totals {
@@ -60,38 +61,60 @@ impl Totals {
     }
 }
 
-fn judged(entry: u8, input: &[u8], wanted: &[u8], given: &[u8], totals: Totals) -> Totals {
+fn judged(
+    rt: &impl Print,
+    entry: u8,
+    input: &[u8],
+    wanted: &[u8],
+    given: &[u8],
+    totals: Totals,
+) -> io::Result<Totals> {
     if given.len() == 0 {
-        return totals.not_read();
+        return Ok(totals.not_read());
     }
-    if check::same(wanted, given) {
-        return totals.agreed();
+    if wanted == given {
+        return Ok(totals.agreed());
     }
-    report::print_difference(entry, input, wanted, given);
-    totals.differed()
+    report::print_difference(rt, entry, input, wanted, given)?;
+    Ok(totals.differed())
 }
 
-fn answered(entry: u8, input: &[u8], wanted: &[u8], out: &mut [u8], totals: Totals) -> Totals {
+fn answered(
+    rt: &impl Print,
+    entry: u8,
+    input: &[u8],
+    wanted: &[u8],
+    out: &mut [u8],
+    totals: Totals,
+) -> io::Result<Totals> {
     let end = entry::answer(entry, input, out);
     if end <= out.len() {
-        judged(entry, input, wanted, &out[0..end], totals)
+        judged(rt, entry, input, wanted, &out[0..end], totals)
     } else {
-        totals.not_read()
+        Ok(totals.not_read())
     }
 }
 
 // A case, whose input ends and whose answer ends at these places of the line's bytes.
-fn case(bytes: &[u8], input: usize, answer: usize, out: &mut [u8], totals: Totals) -> Totals {
+fn case(
+    rt: &impl Print,
+    bytes: &[u8],
+    input: usize,
+    answer: usize,
+    out: &mut [u8],
+    totals: Totals,
+) -> io::Result<Totals> {
     if bytes.len() < answer {
-        return totals.not_read();
+        return Ok(totals.not_read());
     }
     if answer < input {
-        return totals.not_read();
+        return Ok(totals.not_read());
     }
     if input < 2 {
-        return totals.not_read();
+        return Ok(totals.not_read());
     }
     answered(
+        rt,
         bytes[0],
         &bytes[2..input],
         &bytes[input..answer],
@@ -100,11 +123,17 @@ fn case(bytes: &[u8], input: usize, answer: usize, out: &mut [u8], totals: Total
     )
 }
 
-fn whole_line(line: Line, bytes: &[u8], out: &mut [u8], totals: Totals) -> Totals {
+fn whole_line(
+    rt: &impl Print,
+    line: Line,
+    bytes: &[u8],
+    out: &mut [u8],
+    totals: Totals,
+) -> io::Result<Totals> {
     match line.asked() {
-        Asked::Comment => totals,
-        Asked::Unread => totals.not_read(),
-        Asked::Case { input, answer } => case(bytes, input, answer, out, totals),
+        Asked::Comment => Ok(totals),
+        Asked::Unread => Ok(totals.not_read()),
+        Asked::Case { input, answer } => case(rt, bytes, input, answer, out, totals),
     }
 }
 
@@ -117,35 +146,45 @@ struct State {
     ended: bool,
 }
 
-fn more(c: u8, state: State, bytes: &mut [u8], out: &mut [u8]) -> State {
+fn more(
+    rt: &impl Print,
+    c: u8,
+    state: State,
+    bytes: &mut [u8],
+    out: &mut [u8],
+) -> io::Result<State> {
     let line = state.line;
     let totals = state.totals;
     if c == b'\n' {
-        State {
+        Ok(State {
             line: Line::new(),
-            totals: whole_line(line, bytes, out, totals),
+            totals: whole_line(rt, line, bytes, out, totals)?,
             ended: false,
-        }
+        })
     } else {
-        State {
+        Ok(State {
             line: line.more(c, bytes),
             totals,
             ended: false,
-        }
+        })
     }
 }
 
-fn read_part(part: &[u8], from: State, bytes: &mut [u8], out: &mut [u8]) -> State {
+fn read_part(
+    rt: &impl Print,
+    part: &[u8],
+    from: State,
+    bytes: &mut [u8],
+    out: &mut [u8],
+) -> io::Result<State> {
     let mut state = from;
-    let mut i = 0;
-    while i < part.len() {
-        state = more(part[i], state, bytes, out);
-        i += 1;
+    for c in part {
+        state = more(rt, *c, state, bytes, out)?;
     }
-    state
+    Ok(state)
 }
 
-fn finish(state: State) {
+fn finish(rt: &impl Print, state: State) -> io::Result<()> {
     let line = state.line;
     let totals = state.totals;
     let totals = if line.is_begun() {
@@ -153,15 +192,22 @@ fn finish(state: State) {
     } else {
         totals
     };
-    report::print_summary(totals.agree, totals.differ, totals.unread);
+    report::print_summary(rt, totals.agree, totals.differ, totals.unread)
 }
 
 // Reads once, and replays what came.
-fn read_some(part: &mut [u8], from: State, bytes: &mut [u8], out: &mut [u8]) -> State {
-    let n = io::read_full(STDIN_FILENO, part);
-    let mut state = read_part(&part[..n], from, bytes, out);
+fn read_some(
+    rt: &impl Print,
+    input: &mut impl Read,
+    part: &mut [u8],
+    from: State,
+    bytes: &mut [u8],
+    out: &mut [u8],
+) -> io::Result<State> {
+    let n = input.read(part)?;
+    let mut state = read_part(rt, &part[..n], from, bytes, out)?;
     state.ended = n == 0;
-    state
+    Ok(state)
 }
 
 // The turns that are left behind one more. Nothing says that the input ends, so they are counted down, from a number that no run uses up.
@@ -172,7 +218,13 @@ fn left(turns: u64, ended: bool) -> u64
     if ended { 0 } else { turns - 1 }
 }
 
-fn replay(part: &mut [u8], bytes: &mut [u8], out: &mut [u8]) -> State {
+fn replay(
+    rt: &impl Print,
+    input: &mut impl Read,
+    part: &mut [u8],
+    bytes: &mut [u8],
+    out: &mut [u8],
+) -> io::Result<State> {
     let mut state = State {
         line: Line::new(),
         totals: Totals::new(),
@@ -180,15 +232,16 @@ fn replay(part: &mut [u8], bytes: &mut [u8], out: &mut [u8]) -> State {
     };
     let mut turns = u64::MAX;
     while 0 < turns {
-        state = read_some(part, state, bytes, out);
+        state = read_some(rt, input, part, state, bytes, out)?;
         turns = left(turns, state.ended);
     }
-    state
+    Ok(state)
 }
 
-fn main() {
-    let mut part = io::large_buffer();
-    let mut bytes = io::large_buffer();
-    let mut out = io::large_buffer();
-    finish(replay(&mut part, &mut bytes, &mut out));
+fn main(rt: HostRuntime) -> io::Result<()> {
+    let mut part = [0u8; 65536];
+    let mut bytes = [0u8; 65536];
+    let mut out = [0u8; 65536];
+    let state = replay(&rt, &mut rt.stdin(), &mut part, &mut bytes, &mut out)?;
+    finish(&rt, state)
 }

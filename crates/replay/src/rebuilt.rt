@@ -60,7 +60,7 @@ fn is_front(out: &[u8], n: usize, stream: &[u8], at: usize) -> bool {
     if stream.len() < n {
         return false;
     }
-    check::same(&out[0..n], &stream[0..n])
+    &out[0..n] == &stream[0..n]
 }
 
 fn built(rules: Rules, slots: &[u8], stream: &[u8], at: usize) -> bool {

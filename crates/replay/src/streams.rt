@@ -41,7 +41,7 @@ fn behind(rules: Rules, stream: &[u8], at: usize) -> usize {
 // The part of the stream holds the first len of the bytes, and no more.
 fn alike(part: &[u8], bytes: &[u8], len: usize) -> bool {
     if len <= bytes.len() {
-        check::same(part, &bytes[0..len])
+        part == &bytes[0..len]
     } else {
         false
     }
