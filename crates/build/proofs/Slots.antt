@@ -1,13 +1,13 @@
 -- The slots of packed records, one by one. Assumes nothing.
-use Prim.Native.Nat.{ℕ, zero, suc, ◌+◌, ◌*◌, ◌/◌, ◌%◌, ◌<◌, ◌≤◌}
+use Prim.Native.Nat.{ℕ, zero, suc, ◌+◌, ◌/◌, ◌%◌, ◌<◌}
 use mathlib.Core.Path.{◌≡◌, refl, sym, ap, ◌∙◌}
 use mathlib.Core.Bool.{Bool, true, false, cond}
 use mathlib.Core.List.{List, [], ◌∷◌, ◌++◌, map, append-nil}
 use native.Mathlib.Nat.{add-zero}
 use native.Mathlib.Omega.{arith}
 use lib.Dec.{eqb}
-use lib.ListN.{length, get_or, take, drop, length-append, length-map, drop_of_length-le, get_or-append, get_or-map}
-use lib.Seq.{drop-cons, drop-append-le, drop_at}
+use lib.ListN.{length, get_or, drop, length-append, length-map, drop_of_length-le, get_or-append, get_or-map}
+use lib.Seq.{drop-cons, drop_at}
 use borrow.Author.Tests.{eq-eqb, ne_eqb}
 use Rattle.table.specs.declared.rules.Rules.{Rules}
 use Rattle.table.specs.Table.{length_of}

@@ -1,20 +1,16 @@
 -- The sum over a list of records, record by record, and what an accepted list is. Assumes nothing.
 use Prim.Native.Nat.{ℕ, suc, ◌+◌, ◌<◌, ◌≤◌}
-use mathlib.Core.Path.{◌≡◌, refl, sym, ap, ◌∙◌, subst}
+use mathlib.Core.Path.{◌≡◌, sym, ap, ◌∙◌}
 use mathlib.Core.Bool.{Bool, cond}
-use mathlib.Core.List.{List, [], ◌∷◌, ◌++◌}
-use mathlib.Core.Option.{Option, none, some}
-use native.Mathlib.Nat.{add-zero}
+use mathlib.Core.List.{List, [], ◌∷◌}
 use native.Mathlib.Numerals.{add-one}
-use native.Mathlib.Omega.{arith}
-use lib.ListN.{length, take, drop, length-append}
-use lib.Seq.{length-take-le}
+use lib.ListN.{length, drop}
 use borrow.Author.Tests.{le-leb, lt-leb}
 use Rattle.table.specs.Answers.{Answer, given}
 use Rattle.table.specs.Answers as Answers
-use Rattle.walk.specs.Walk.{Rule, Cmd, WellFormed, encode, size}
-use Rattle.build.specs.Records.{Rec, Item, whole, part, cmd_of, cmds_of, measured, judged, judged_item}
-use Rattle.build.specs.Build.{Built, total, refused_at, refused, next, sum_from, total_of}
+use Rattle.walk.specs.Walk.{Rule}
+use Rattle.build.specs.Records.{Item, judged_item}
+use Rattle.build.specs.Build.{total, refused_at, refused, next, sum_from, total_of}
 
 module _ (L : Rule) (xs : List Item) (i sum : ℕ) where
   -- the record at i takes n bytes

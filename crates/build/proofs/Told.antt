@@ -11,9 +11,7 @@ use Rattle.walk.proofs.Told.{step_tells}
 use Rattle.build.specs.declared.handed.Handed.{Handed}
 use Rattle.build.specs.declared.record.Record.{Record}
 use Rattle.build.specs.declared.record.Judged.{Judged}
-use Rattle.build.specs.declared.record.Judged.TheVariants as Judged
 use Rattle.build.specs.declared.packed.BuildAnswer.{BuildAnswer}
-use Rattle.build.specs.declared.packed.BuildAnswer.TheVariants as BuildAnswer
 use Rattle.build.specs.Build.{Built, total, refused_at, refused}
 use Rattle.build.specs.Told.{told_judged, told_build, told_handed}
 

@@ -8,9 +8,7 @@ use Rattle.walk.specs.Told.{told_step}
 use Rattle.build.specs.declared.handed.Handed.{Handed}
 use Rattle.build.specs.declared.record.Record.{Record}
 use Rattle.build.specs.declared.record.Judged.{Judged}
-use Rattle.build.specs.declared.record.Judged.TheVariants as Judged
 use Rattle.build.specs.declared.packed.BuildAnswer.{BuildAnswer}
-use Rattle.build.specs.declared.packed.BuildAnswer.TheVariants as BuildAnswer
 use Rattle.build.specs.Build.{Built, total, refused_at, refused}
 
 abbrev pub told_judged : Judged → Answer ℕ

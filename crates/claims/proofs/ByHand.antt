@@ -1,4 +1,4 @@
--- The contracts by hand admit exactly what their definitions say: crates/claims/specs/ByHand.antt. Assumes nothing.
+-- The contracts that are read over the program logic admit exactly what their definitions say: crates/claims/specs/ByHand.antt. Assumes nothing.
 use Prim.Native.Nat.{ℕ, zero, suc}
 use mathlib.Core.List.{List}
 use mathlib.Core.Logic.{∥∥₁_elim}

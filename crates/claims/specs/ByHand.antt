@@ -1,4 +1,4 @@
--- The contracts of the functions that are proved by hand admit exactly the outcomes that their definitions say: no other, and all of these, so that what
+-- The contracts that are read over the program logic admit exactly the outcomes that their definitions say: no other, and all of these, so that what
 -- is claimed of admitted outcomes (Outcomes.antt) is claimed of something.
 use Rattle.std.specs.Prelude.{ℕ, List, ◌≡◌}
 use Rattle.std.specs.Borrow.{Bor, MutBor}

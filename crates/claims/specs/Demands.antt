@@ -41,7 +41,7 @@ pub record Demands : Type 2 where
   pub origins_tell : OriginsTell
   -- D3d to D3f: what is built reads back as it was
   pub builds : Builds
-  -- the claims that speak of contracts by hand speak of something
+  -- the claims that speak of contracts over the program logic speak of something
   pub by_hand : ByHand
   -- C1 to C4: where in a frame the commands are
   pub chooser : Lifted Chooser

@@ -118,7 +118,7 @@ pub record BuildsTo (slots : List ℕ) (records : List Record) (before : List �
   pub packed : (a : Built) (o : List ℕ) → FromSlots (record { direction = Up }) (slots_of slots) before a o → (a ≡ answer) × (o ≡ after)
   pub structs : (a : Built) (o : List ℕ) → FromStructs (record { direction = Up }) (items_of records) before a o → (a ≡ answer) × (o ≡ after)
 
--- a statement in the universe of those that speak of functions proved by hand
+-- a statement in the universe of those that speak of contracts over the program logic
 pub record Lifted (P : Type 0) : Type 2 where
   pub so : P
 

@@ -20,7 +20,7 @@ Gives {K = K} {S = S} Post args r = (κs : K) × ((exit : S) × Post κs args r 
 abbrev pub GivesWith : {K A R S M : Type 0} → (S → M) → (K → A → R → S → Type 0) → A → R → M → Type 0
 GivesWith {K = K} {S = S} left Post args r m = (κs : K) × ((exit : S) × (Post κs args r exit × (left exit ≡ m)))
 
--- the contract of a function that is proved by hand, of which the check makes no such reading, admits an outcome: whatever proposition its
+-- a contract as it is written, over the program logic, admits an outcome: whatever proposition its
 -- `ensures` says of the outcome, in every model of memory, is so. (A fact in the program logic is known without its proof, so of a type that
 -- has several proofs it tells none.)
 abbrev pub Admits : (T : Ended) → AnyClauses T → (κs : Lfts T.signature.lifetimes) → Args T.signature κs → Res T.signature κs → AtExit T κs → Type 2

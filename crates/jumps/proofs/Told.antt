@@ -5,9 +5,7 @@ use Rattle.bits.proofs.Fixed.{by_inverse}
 use Rattle.table.specs.Answers.{Answer, given, refused}
 use Rattle.table.proofs.Told.{numbered, numbered_number}
 use Rattle.jumps.specs.declared.entries.EntriesAnswer.{EntriesAnswer}
-use Rattle.jumps.specs.declared.entries.EntriesAnswer.TheVariants as EntriesAnswer
 use Rattle.jumps.specs.declared.jump.JumpAnswer.{JumpAnswer}
-use Rattle.jumps.specs.declared.jump.JumpAnswer.TheVariants as JumpAnswer
 use Rattle.jumps.specs.Jump.{Spot}
 use Rattle.jumps.specs.Told.{told_entries, told_jump}
 

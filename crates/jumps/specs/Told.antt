@@ -3,9 +3,7 @@ use Rattle.std.specs.Prelude.{ℕ}
 use Rattle.table.specs.Answers.{Answer, given, refused}
 use Rattle.table.specs.Refusals.{number_of}
 use Rattle.jumps.specs.declared.entries.EntriesAnswer.{EntriesAnswer}
-use Rattle.jumps.specs.declared.entries.EntriesAnswer.TheVariants as EntriesAnswer
 use Rattle.jumps.specs.declared.jump.JumpAnswer.{JumpAnswer}
-use Rattle.jumps.specs.declared.jump.JumpAnswer.TheVariants as JumpAnswer
 use Rattle.jumps.specs.Jump.{Spot}
 
 abbrev pub told_entries : EntriesAnswer → Answer ℕ

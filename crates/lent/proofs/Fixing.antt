@@ -1,5 +1,5 @@
--- A contract fixes its function's outcome, for a function that is proved by hand. Of such a one the check reads no plain `Post` (Rattle.bits.proofs.Fixed);
--- its contract is its clauses, over any memory. Assumes nothing.
+-- A contract fixes its function's outcome, where the contract is read as it is written, over any memory. (Rattle.bits.proofs.Fixed reads it as the plain `Post`.)
+-- Assumes nothing.
 use mathlib.Core.Path.{◌≡◌}
 use seplogic.Ra.Ura.{Ura}
 use base.Logic.{SProp, ent, sep, fst∗, snd∗}

@@ -5,7 +5,6 @@ use Rattle.bits.proofs.Fixed.{by_inverse}
 use Rattle.table.specs.Answers.{Answer, given, refused}
 use Rattle.table.proofs.Told.{numbered, numbered_number}
 use Rattle.listings.specs.declared.ListingAnswer.{ListingAnswer}
-use Rattle.listings.specs.declared.ListingAnswer.TheVariants as ListingAnswer
 use Rattle.listings.specs.Told.{told_listing}
 
 listing_told : Answer ℕ → ListingAnswer

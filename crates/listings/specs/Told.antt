@@ -3,7 +3,6 @@ use Rattle.std.specs.Prelude.{ℕ}
 use Rattle.table.specs.Answers.{Answer, given, refused}
 use Rattle.table.specs.Refusals.{number_of}
 use Rattle.listings.specs.declared.ListingAnswer.{ListingAnswer}
-use Rattle.listings.specs.declared.ListingAnswer.TheVariants as ListingAnswer
 
 abbrev pub told_listing : ListingAnswer → Answer ℕ
 told_listing (ListingAnswer.Total n) = given n

@@ -1,4 +1,4 @@
-// The two forms proved by hand, through the fronts of theirs that need no proof by hand: the iterator's calls one by one, and the build
+// The two forms over lent structs, through the fronts of theirs that take numbers and arrays: the iterator's calls one by one, and the build
 // over structs of four records. `tools/differential direct` puts oracle/direct.txt in the place of this file, which calls them
 // directly.
 use crate::reading::{byte, from};

@@ -1,5 +1,5 @@
 -- A field past the byte reads 0, and one wider than the byte reads all that is left of it.
-use Rattle.std.proofs.Common.{◌≡◌, ℕ, ◌<◌, ◌≤◌, ◌^◌, ◌/◌, ◌%◌, sym, ap, ◌∙◌, arith}
+use Rattle.std.proofs.Common.{◌≡◌, ℕ, ◌<◌, ◌^◌, ◌/◌, ◌%◌, sym, ap, ◌∙◌, arith}
 use native.Mathlib.Nat.{mod-eq_of_lt, div-le_self, div-eq_of_lt, lt_of_le_of_lt, lt_of_lt_of_le, zero-mod}
 use lib.Pow.{pow_mono}
 use Rattle.bits.specs.Bits.{field}

@@ -5,7 +5,6 @@ use mathlib.Core.Path.{◌≡◌, sym, ap₂}
 use native.Mathlib.Omega.{arith}
 use lib.ListN.{length, take, drop, length-drop}
 use lib.Seq.{length-take-le}
-use borrow.Author.Rules.{rules}
 use Rattle.build.specs.Records.{stamped}
 use Rattle.build.proofs.AsRecords.{five_is}
 use Rattle.build.proofs.handed.from_frame.Goals as goal

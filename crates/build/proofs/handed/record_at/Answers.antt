@@ -1,13 +1,12 @@
 -- `record_at` meets its contract. Assumes nothing.
-use mathlib.Core.Path.{◌≡◌, refl, sym, ap, ap₂, ◌∙◌}
+use mathlib.Core.Path.{◌≡◌, sym, ap, ap₂, ◌∙◌}
 use native.Mathlib.Omega.{arith}
-use borrow.Author.Rules.{rules}
 use Rattle.table.specs.Answers.{given}
 use Rattle.table.specs.Table.{length_of}
 use Rattle.walk.specs.Step.{command, heading, step_at}
 use Rattle.walk.specs.Told.{told_step}
 use Rattle.walk.proofs.Steps.{step_on}
-use Rattle.build.proofs.AsRecords.{command_record, no_record_is}
+use Rattle.build.proofs.AsRecords.{command_record}
 use Rattle.build.proofs.handed.record_at.Goals as goal
 use Rattle.build.proofs.handed.record_at.Goals.{In-Command}
 

@@ -1,19 +1,17 @@
 -- `build_mac_commands` meets its contract. Assumes nothing.
-use Prim.Native.Nat.{ℕ, ◌≤◌}
+use Prim.Native.Nat.{ℕ}
 use mathlib.Core.Path.{◌≡◌, sym, ap, ◌∙◌}
 use mathlib.Core.List.{List, map}
 use native.Mathlib.Omega.{arith}
 use lib.ListN.{length}
 use Rattle.bits.specs.Memory.{over}
-use Rattle.bits.proofs.Memory.{over_length}
 use Rattle.table.specs.Table.{length_of}
 use Rattle.walk.specs.Walk.{Cmd, encode}
 use Rattle.build.specs.Records.{cmd_of, slots_of, whole_slots}
 use Rattle.build.specs.Build.{total, total_of}
 use Rattle.build.specs.Told.{told_build}
 use Rattle.build.proofs.Slots.{cmds_of_slots, slots_full}
-use Rattle.build.proofs.ThereAndBack.{length_is_written, filled, not_filled, kept}
-use borrow.Author.Rules.{rules}
+use Rattle.build.proofs.ThereAndBack.{length_is_written, filled}
 use Rattle.build.proofs.packed.build_mac_commands.Goals as goal
 
 pub write_all-requires-clause-total_value : goal.write_all-requires-clause-total_value

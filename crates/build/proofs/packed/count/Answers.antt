@@ -1,7 +1,6 @@
 -- `count` meets its contract. Assumes nothing.
 use mathlib.Core.Path.{sym}
 use Rattle.build.proofs.Slots.{slots_no_part, slots_a_part}
-use borrow.Author.Rules.{rules}
 use Rattle.build.proofs.packed.count.Goals as goal
 
 pub returns-then-records-eq0 : goal.returns-then-records-eq0

@@ -1,5 +1,5 @@
 -- `mac_commands_len` meets its contract. The loop's invariant: the whole sum is that of the records from i on. Assumes nothing.
-use Prim.Native.Nat.{ℕ, ◌+◌, ◌*◌, ◌-◌, ◌/◌, ◌%◌, ◌<◌, ◌≤◌}
+use Prim.Native.Nat.{ℕ, ◌/◌, ◌%◌, ◌<◌}
 use mathlib.Core.Path.{◌≡◌, refl, sym, ap, ◌∙◌}
 use native.Mathlib.Omega.{arith}
 use lib.ListN.{length, drop}
@@ -10,9 +10,8 @@ use Rattle.build.specs.Records.{part, held_by, slot_at, slots_of, judged}
 use Rattle.build.specs.Build.{sum_from, total_of}
 use Rattle.build.specs.Told.{told_judged}
 use Rattle.build.proofs.Judging.{at_most_six}
-use Rattle.build.proofs.Sums.{sum_more, sum_refused, sum_end, too_many, not_too_many}
+use Rattle.build.proofs.Sums.{sum_more, sum_refused, sum_end, not_too_many}
 use Rattle.build.proofs.Slots.{slot-at, no_part, a_part}
-use borrow.Author.Rules.{rules}
 use Rattle.build.proofs.packed.mac_commands_len.Goals as goal
 use Rattle.build.proofs.packed.mac_commands_len.Goals.{Else-count-gt4096}
 

@@ -1,5 +1,5 @@
 -- `write_all` meets its contract. The loop's invariant: i records stand at the front, and `at` is behind them. Assumes nothing.
-use Prim.Native.Nat.{ℕ, ◌+◌, ◌-◌, ◌/◌, ◌<◌, ◌≤◌}
+use Prim.Native.Nat.{ℕ, ◌+◌, ◌/◌, ◌<◌, ◌≤◌}
 use mathlib.Core.Path.{◌≡◌, sym, ap, ◌∙◌, subst}
 use mathlib.Core.List.{map}
 use native.Mathlib.Omega.{arith}
@@ -7,9 +7,8 @@ use lib.ListN.{length, get_or}
 use Rattle.walk.specs.Walk.{encode}
 use Rattle.build.specs.Records.{Rec, cmd_of, command_bytes, held_by, slot_at, whole_slots}
 use Rattle.build.specs.Laying.{LaidAt}
-use Rattle.build.proofs.Laying.{Laid, laid_none, laid_length, laid_room, laid_next, laid_all}
+use Rattle.build.proofs.Laying.{laid_room, laid_next, laid_all}
 use Rattle.build.proofs.Slots.{slots_length, slot_in}
-use borrow.Author.Rules.{rules}
 use Rattle.build.proofs.packed.write_all.Goals as goal
 use Rattle.build.proofs.packed.write_all.Goals.{Start}
 

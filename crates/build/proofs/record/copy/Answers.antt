@@ -5,8 +5,7 @@ use mathlib.Core.Path.{◌≡◌, ap, ◌∙◌}
 use mathlib.Core.List.{List}
 use native.Mathlib.Omega.{arith}
 use lib.ListN.{length, get_or, set}
-use lib.Seq.{paste, paste-zero, paste-suc, length-paste}
-use borrow.Author.Rules.{rules}
+use lib.Seq.{paste, paste-suc}
 use Rattle.build.proofs.record.copy.Goals as goal
 use Rattle.build.proofs.record.copy.Goals.{then-j-n, else-j-n}
 
@@ -30,7 +29,7 @@ loop-j-preserved c =
     let l = c.loop-j in (
       omega arith,
       elim c.if-j-n.branch [
-        then-j-n w ↦ w.out-is ∙ one_more a.out.now a.bytes.now a.at a.n l.j l.out w.if-j-n.true (omega arith) (omega arith) l.invariant.1
+        | then-j-n w ↦ w.out-is ∙ one_more a.out.now a.bytes.now a.at a.n l.j l.out w.if-j-n.true (omega arith) (omega arith) l.invariant.1
         | else-j-n w ↦ w.out-is ∙ no_more a.out.now a.bytes.now a.at a.n l.j l.out w.if-j-n.false l.invariant.1
       ],
     )

@@ -3,8 +3,6 @@ use Prim.Native.Nat.{◌≤◌}
 use mathlib.Core.Path.{ap}
 use native.Mathlib.Omega.{arith}
 use Rattle.table.specs.Told.{told_length}
-use Rattle.build.proofs.Judging.{unknown_cid, right_length, wrong_length}
-use borrow.Author.Rules.{rules}
 use Rattle.build.proofs.record.measured.Goals as goal
 
 pub overflow_add-result : goal.overflow_add-result

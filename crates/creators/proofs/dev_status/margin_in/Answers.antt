@@ -8,7 +8,6 @@ use Rattle.creators.proofs.dev_status.margin_in.Goals as goal
 use Rattle.creators.proofs.dev_status.margin_in.Goals.{Else-margin-gt31}
 
 -- where neither test refused
-
 held : (c : Else-margin-gt31) → is_margin c.args.margin ≡ true
 held c =
     let e = to_z-of_z c.ranges.margin in

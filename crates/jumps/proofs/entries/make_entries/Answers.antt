@@ -1,5 +1,4 @@
 -- `make_entries` meets its contract. Assumes nothing.
-use borrow.Author.Rules.{rules}
 use native.Mathlib.Omega.{arith}
 use Rattle.jumps.proofs.Making.{total_is, made_short, made_long, made_all}
 use Rattle.jumps.proofs.entries.make_entries.Goals as goal

@@ -1,11 +1,10 @@
 -- `write_entries` meets its contract. The loop's invariant: k entries stand at the front, and `at` is the offset of the next. Assumes nothing.
-use Prim.Native.Nat.{◌-◌, ◌≤◌}
+use Prim.Native.Nat.{◌≤◌}
 use native.Mathlib.Omega.{arith}
 use lib.ListN.{length}
-use borrow.Author.Rules.{rules}
 use Rattle.table.specs.Table.{length_of}
 use Rattle.jumps.specs.Entries.{entries_of}
-use Rattle.jumps.proofs.Making.{Written, written_none, written_length, written_in, written_more, written_all}
+use Rattle.jumps.proofs.Making.{written_none, written_in, written_more}
 use Rattle.jumps.proofs.entries.write_entries.Goals as goal
 use Rattle.jumps.proofs.entries.write_entries.Goals.{Start}
 

@@ -1,11 +1,7 @@
 -- What the loop keeps true.
 use Prim.Native.Nat.{◌-◌, ◌≤◌}
-use native.Mathlib.Omega.{arith}
-use lib.ListN.{length}
-use borrow.Author.Rules.{rules}
 use Rattle.table.specs.Table.{length_of}
-use Rattle.jumps.specs.Entries.{entries_of}
-use Rattle.jumps.proofs.Making.{Written, written_none, written_length, written_in, written_more, written_all}
+use Rattle.jumps.proofs.Making.{Written}
 use Rattle.jumps.proofs.entries.write_entries.Given as goal
 
 abbrev pub invariant-loop-k : goal.invariant-loop-k

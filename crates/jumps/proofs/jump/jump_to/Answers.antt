@@ -1,5 +1,4 @@
 -- `jump_to` meets its contract. Assumes nothing.
-use borrow.Author.Rules.{rules}
 use native.Mathlib.Omega.{arith}
 use Rattle.jumps.proofs.Reaching.{none_covers, covered}
 use Rattle.jumps.proofs.jump.jump_to.Goals as goal

@@ -14,8 +14,8 @@ use Rattle.ledger.proofs.Walking.{Stands, stands}
 use Rattle.ledger.proofs.judge.judge.Goals as goal
 use Rattle.ledger.proofs.judge.judge.Goals.{In-Command}
 
+-- the command at hand
 module _ (c : In-Command) where
-
   abbrev cid : ℕ
   cid = c.in-Command.cid
 
@@ -41,8 +41,6 @@ pub loop-cid-init : goal.loop-cid-init
 loop-cid-init c =
     let a = c.args in
     judged_none a.rules a.stream.now a.pending.now a.listed a.room c.room_left-left.ensures
-
--- the command at hand
 
 pub bounds-seen-c : goal.bounds-seen-c
 bounds-seen-c c =

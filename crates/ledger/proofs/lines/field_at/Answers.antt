@@ -8,8 +8,8 @@ use Rattle.ledger.proofs.TracingSteps.{pairs_fit, pairs_few, field_end, field_da
 use Rattle.ledger.proofs.lines.field_at.Goals as goal
 use Rattle.ledger.proofs.lines.field_at.Goals.{Else-n-eq0}
 
+-- the pairs have room in the text
 module _ (c : Else-n-eq0) where
-
   few : c.pairs-n.result ≤ 255
   few = omega (arith, c.pairs-n.ensures.value, pairs_few 255 (drop c.args.at c.args.text.now))
 
@@ -32,8 +32,6 @@ pub returns-then-n-eq0-clause-stream_after : goal.returns-then-n-eq0-clause-stre
 returns-then-n-eq0-clause-stream_after c =
     sym (field_nothing c.args.text.now c.args.at c.if-text-at.false c.if-first-eq45.false (sym c.pairs-n.ensures.value ∙ c.if-n-eq0.true))
 
--- the pairs have room in the text
-
 pub closed_at-requires-2 : goal.closed_at-requires-2
 closed_at-requires-2 c = let l = fit c in let h = c.requires.at_in_bounds in search rules
 
@@ -42,4 +40,4 @@ returns-clause-stream_after c = let a = c.args in
     let r = c.closed_at-2 in
     let m = few (goal.at.returns-clause-stream_after c).Else-n-eq0 in
     let n = r.ensures.len_le_len in field_bytes a.text.now a.at c.if-text-at.false c.if-first-eq45.false c.pairs-n.new.stream
-          c.pairs-n.ensures.value c.pairs-n.ensures.stream_after c.if-n-eq0.false r.result r.ensures.result_value
+    c.pairs-n.ensures.value c.pairs-n.ensures.stream_after c.if-n-eq0.false r.result r.ensures.result_value

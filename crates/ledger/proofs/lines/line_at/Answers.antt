@@ -11,8 +11,8 @@ use Rattle.ledger.proofs.TracingSteps.{heading_room}
 use Rattle.ledger.proofs.lines.line_at.Goals as goal
 use Rattle.ledger.proofs.lines.line_at.Goals.{After-heading_at-sent}
 
+-- the heading is behind the number
 module _ (c : After-heading_at-sent) where
-
   room : c.heading_at-sent.result.ok ≡ true → c.number_at-found.result.next + 3 ≤ length c.args.text.now
   room e =
       heading_room c.args.text.now c.number_at-found.result.next
@@ -26,8 +26,6 @@ heading_at-sent-requires c =
     let h = c.requires.at_in_bounds in
     omega (arith, c.number_at-found.ensures.next_value, number_fits c.args.text.now c.args.at (omega arith))
 
--- the heading is behind the number
-
 pub overflow_add-field : goal.overflow_add-field
 overflow_add-field c = let r = room (goal.at.overflow_add-field c).After-heading_at-sent c.if-ok.true in search rules
 
@@ -37,13 +35,12 @@ field_at-read-requires-clause-at_in_bounds c = let r = room (goal.at.field_at-re
 pub returns-then-ok-clause-stream_after : goal.returns-then-ok-clause-stream_after
 returns-then-ok-clause-stream_after c = let a = c.args in
     let f = c.field_at-read in line_told a.text.now a.at c.number_at-found.ensures.value_value c.number_at-found.ensures.next_value c.if-behind-at.false c.if-value-gt4294967295.false
-          (sym c.heading_at-sent.ensures ∙ ap (λ (b : Bool). cond b (some c.heading_at-sent.result.direction) none) c.if-ok.true)
-          f.result f.new.stream f.ensures.stream_after
+    (sym c.heading_at-sent.ensures ∙ ap (λ (b : Bool). cond b (some c.heading_at-sent.result.direction) none) c.if-ok.true)
+    f.result f.new.stream f.ensures.stream_after
 
 pub returns-else-ok-clause-stream_after : goal.returns-else-ok-clause-stream_after
 returns-else-ok-clause-stream_after c = let a = c.args in sym (line_no_heading a.text.now a.at c.number_at-found.ensures.value_value c.number_at-found.ensures.next_value
-          (sym c.heading_at-sent.ensures ∙ ap (λ (b : Bool). cond b (some c.heading_at-sent.result.direction) none) c.if-ok.false))
-
+    (sym c.heading_at-sent.ensures ∙ ap (λ (b : Bool). cond b (some c.heading_at-sent.result.direction) none) c.if-ok.false))
 
 pub returns-then-value-gt4294967295-clause-stream_after : goal.returns-then-value-gt4294967295-clause-stream_after
 returns-then-value-gt4294967295-clause-stream_after c =

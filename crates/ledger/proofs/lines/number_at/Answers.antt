@@ -37,7 +37,6 @@ returns-then-d-gt9-clause-next_value c = let n = counted_other c.args.text.now c
     c.loop-i-test.true c.digit-d.ensures c.if-d-gt9.true in
     n.there
 
-
 pub returns-then-value-gt429496729-clause-value_value : goal.returns-then-value-gt429496729-clause-value_value
 returns-then-value-gt429496729-clause-value_value c =
     let n = counted_large c.args.text.now c.args.at c.loop-i.invariant c.requires c.if-zero-eq48.false c.if-value-gt429496729.true in

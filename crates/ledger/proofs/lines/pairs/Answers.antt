@@ -8,7 +8,6 @@ use Rattle.ledger.proofs.lines.pairs.Goals as goal
 use Rattle.ledger.proofs.lines.pairs.Goals.{In-loop-n}
 
 module _ (c : In-loop-n) where
-
   room : Room c.args.text.now c.loop-n.n c.loop-n.i
   room = paired_room c.args.text.now c.args.at c.loop-n.invariant c.room_in-most.ensures c.loop-n-test.true
 

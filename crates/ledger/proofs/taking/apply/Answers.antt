@@ -62,7 +62,6 @@ returns-in-Refused c =
     let a = c.args in
     absurd (never_refused a.rules a.stream.now c.loop-cid.at c.loop-cid.invariant.0.within (sym c.step_at-found.ensures ∙ ap told_step c.in-Refused.is))
 
-
 pub take_command-count-requires-clause-list_value : goal.take_command-count-requires-clause-list_value
 take_command-count-requires-clause-list_value c =
     let a = c.args in

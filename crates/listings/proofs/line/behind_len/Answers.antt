@@ -1,13 +1,11 @@
 -- `behind_len` meets its contract. Assumes nothing.
 use Prim.Native.Nat.{ℕ, ◌+◌}
 use mathlib.Core.Path.{sym, ap, ◌∙◌}
-use mathlib.Core.Bool.{Bool}
-use borrow.Author.Rules.{rules}
 use native.Mathlib.Omega.{arith}
 use lib.ListN.{length}
 use Rattle.text.specs.Decimal.{decimal}
 use Rattle.listings.specs.Listing.{channels}
-use Rattle.listings.specs.Passes.{body_at, behind}
+use Rattle.listings.specs.Passes.{body_at}
 use Rattle.listings.proofs.Lining.{counted_four, digits_few, counted_long, four_taken}
 use Rattle.listings.proofs.line.behind_len.Goals as goal
 

@@ -1,6 +1,5 @@
 -- `is_counted` meets its contract. Assumes nothing.
 use mathlib.Core.Path.{sym, ap, ◌∙◌}
-use borrow.Author.Rules.{rules}
 use Rattle.table.specs.declared.rules.Direction.{Direction}
 use Rattle.listings.proofs.Lining.{counted_in, counted_is}
 use Rattle.listings.proofs.line.is_counted.Goals as goal

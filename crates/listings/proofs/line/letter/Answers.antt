@@ -1,6 +1,5 @@
 -- `letter` meets its contract. Assumes nothing.
 use mathlib.Core.Path.{sym, ap}
-use borrow.Author.Rules.{rules}
 use Rattle.table.specs.declared.rules.Direction.{Direction}
 use Rattle.text.specs.Characters.{ascii, letter_of}
 use Rattle.listings.proofs.line.letter.Goals as goal

@@ -1,7 +1,6 @@
 -- `line_len` meets its contract, by the four answers of a step. Assumes nothing.
 use Prim.Native.Nat.{ℕ, ◌+◌, ◌≤◌}
 use mathlib.Core.Path.{◌≡◌, sym, ap, ◌∙◌}
-use borrow.Author.Rules.{rules}
 use native.Mathlib.Omega.{arith}
 use lib.ListN.{length}
 use Rattle.text.specs.Decimal.{decimal}
@@ -9,7 +8,6 @@ use Rattle.text.specs.Lines.{line}
 use Rattle.table.specs.declared.refusal.Refusal.{Refusal}
 use Rattle.table.specs.Refusals.{number_of}
 use Rattle.walk.specs.declared.step.Step.{Step}
-use Rattle.walk.specs.declared.step.Step.TheVariants as Step
 use Rattle.walk.specs.Told.{told_step}
 use Rattle.listings.specs.Passes.{step_line}
 use Rattle.listings.proofs.Lining.{digits_few, end_long, stop_long}
@@ -22,7 +20,6 @@ known-long : (c : Start) {f : Step} {n : ℕ} → c.args.found ≡ f → n ≡ l
 known-long c e p = p ∙ ap (λ (f : Step). length (line (step_line c.args.rules c.args.stream.now c.args.at (told_step f)))) (sym e)
 
 -- that of a stop
-
 stop-known : (c : Start) {r : Refusal} {o m : ℕ} → c.args.found ≡ Step.Stop r o → m ≡ length (decimal (number_of r))
     → length (decimal c.args.at) + 7 + m ≡ length (line (step_line c.args.rules c.args.stream.now c.args.at (told_step c.args.found)))
 stop-known c {r} e p = known-long c e (omega (arith, stop_long (number_of r) c.args.at))
@@ -63,7 +60,7 @@ returns-in-End-clause-upper_bound c = let e = c.decimal_len.ensures in
 pub returns-in-Stop-clause-value : goal.returns-in-Stop-clause-value
 returns-in-Stop-clause-value c = let e = c.decimal_len-in-Stop.ensures in
     let l = c.decimal_len-in-Stop-2.ensures in ap (λ (n : ℕ). n + 7 + c.decimal_len-in-Stop-2.result) e
-          ∙ stop-known (goal.at.returns-in-Stop-clause-value c).Start c.in-Stop.is (l ∙ ap (λ (n : ℕ). length (decimal n)) c.number.ensures)
+    ∙ stop-known (goal.at.returns-in-Stop-clause-value c).Start c.in-Stop.is (l ∙ ap (λ (n : ℕ). length (decimal n)) c.number.ensures)
 
 pub returns-in-Stop-clause-upper_bound : goal.returns-in-Stop-clause-upper_bound
 returns-in-Stop-clause-upper_bound c = let e = c.decimal_len-in-Stop.ensures in

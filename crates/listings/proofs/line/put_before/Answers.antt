@@ -1,5 +1,4 @@
 -- `put_before` meets its contract. Assumes nothing.
-use borrow.Author.Rules.{rules}
 use Rattle.listings.proofs.Putting.{before_put}
 use Rattle.listings.proofs.line.put_before.Goals as goal
 

@@ -1,11 +1,8 @@
 -- `put_behind` meets its contract. Assumes nothing.
-use mathlib.Core.Bool.{Bool}
-use mathlib.Core.Path.{sym, ap, ◌∙◌}
-use borrow.Author.Rules.{rules}
+use mathlib.Core.Path.{sym, ◌∙◌}
 use native.Mathlib.Omega.{arith}
-use Rattle.bits.specs.Memory.{written_at}
 use Rattle.listings.specs.Listing.{channels}
-use Rattle.listings.specs.Passes.{body_at, behind}
+use Rattle.listings.specs.Passes.{body_at}
 use Rattle.listings.proofs.Lining.{counted_four, four_taken}
 use Rattle.listings.proofs.Putting.{counted_put}
 use Rattle.listings.proofs.line.put_behind.Goals as goal

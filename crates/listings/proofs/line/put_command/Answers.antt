@@ -1,5 +1,4 @@
 -- `put_command` meets its contract. Assumes nothing.
-use borrow.Author.Rules.{rules}
 use Rattle.listings.specs.Passes.{body_at}
 use Rattle.listings.proofs.Putting.{before_room, behind_room, command_put}
 use Rattle.listings.proofs.line.put_command.Goals as goal

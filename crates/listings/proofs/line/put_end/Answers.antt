@@ -1,5 +1,4 @@
 -- `put_end` meets its contract. Assumes nothing.
-use borrow.Author.Rules.{rules}
 use Rattle.text.specs.Characters.{ascii}
 use Rattle.listings.proofs.Putting.{end_put}
 use Rattle.listings.proofs.line.put_end.Goals as goal

@@ -1,8 +1,7 @@
 -- `put_payload` meets its contract. Assumes nothing.
 use mathlib.Core.Path.{ap, ◌∙◌}
-use borrow.Author.Rules.{rules}
 use Rattle.bits.specs.Memory.{written_at}
-use Rattle.listings.proofs.Lining.{dash_is, hex_is}
+use Rattle.listings.proofs.Lining.{dash_is}
 use Rattle.listings.proofs.line.put_payload.Goals as goal
 
 pub returns-then-len-eq0 : goal.returns-then-len-eq0

@@ -1,5 +1,4 @@
 -- `put_stamp` meets its contract. Assumes nothing.
-use borrow.Author.Rules.{rules}
 use Rattle.listings.proofs.Putting.{stamp_put}
 use Rattle.listings.proofs.line.put_stamp.Goals as goal
 

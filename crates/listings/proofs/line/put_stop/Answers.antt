@@ -1,5 +1,4 @@
 -- `put_stop` meets its contract. Assumes nothing.
-use borrow.Author.Rules.{rules}
 use Rattle.text.specs.Characters.{ascii}
 use Rattle.listings.proofs.Putting.{stop_put}
 use Rattle.listings.proofs.line.put_stop.Goals as goal

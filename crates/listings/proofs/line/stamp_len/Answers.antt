@@ -1,5 +1,4 @@
 -- `stamp_len` meets its contract. Assumes nothing.
-use borrow.Author.Rules.{rules}
 use native.Mathlib.Omega.{arith}
 use Rattle.listings.proofs.Lining.{stamp_few, stamp_long}
 use Rattle.listings.proofs.line.stamp_len.Goals as goal

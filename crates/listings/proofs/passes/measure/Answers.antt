@@ -1,8 +1,7 @@
 -- `measure` meets its contract. The loop's invariant: the lines of the commands before `at` have `sum` bytes. The measure is what is left of the
 -- stream. Assumes nothing.
-use Prim.Native.Nat.{ℕ, ◌+◌, ◌-◌}
+use Prim.Native.Nat.{ℕ, ◌+◌}
 use mathlib.Core.Path.{◌≡◌, sym, ap, ap₂, ◌∙◌}
-use borrow.Author.Rules.{rules}
 use native.Mathlib.Omega.{arith}
 use lib.ListN.{length}
 use Rattle.walk.specs.Told.{told_step}
@@ -10,7 +9,7 @@ use Rattle.walk.specs.declared.step.Step.{Step}
 use Rattle.walk.proofs.Steps.{step_on}
 use Rattle.listings.specs.Passes.{step_line}
 use Rattle.listings.proofs.Lining.{frame_long, stamp_few}
-use Rattle.listings.proofs.Walking.{Summed, summed_none, summed_over, summed_last, summed_next, step_text, rest_after}
+use Rattle.listings.proofs.Walking.{summed_over, summed_last, summed_next, step_text, rest_after}
 use Rattle.listings.proofs.passes.measure.Goals as goal
 use Rattle.listings.proofs.passes.measure.Goals.{After-line_len}
 

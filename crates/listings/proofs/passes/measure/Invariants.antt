@@ -1,15 +1,7 @@
 -- What the loop keeps true.
-use Prim.Native.Nat.{ℕ, ◌+◌, ◌-◌}
-use mathlib.Core.Path.{◌≡◌, sym, ap, ap₂, ◌∙◌}
-use borrow.Author.Rules.{rules}
-use native.Mathlib.Omega.{arith}
+use Prim.Native.Nat.{◌-◌}
 use lib.ListN.{length}
-use Rattle.walk.specs.Told.{told_step}
-use Rattle.walk.specs.declared.step.Step.{Step}
-use Rattle.walk.proofs.Steps.{step_on}
-use Rattle.listings.specs.Passes.{step_line}
-use Rattle.listings.proofs.Lining.{frame_long, stamp_few}
-use Rattle.listings.proofs.Walking.{Summed, summed_none, summed_over, summed_last, summed_next, step_text, rest_after}
+use Rattle.listings.proofs.Walking.{Summed}
 use Rattle.listings.proofs.passes.measure.Given as goal
 
 abbrev pub invariant-loop-sum : goal.invariant-loop-sum

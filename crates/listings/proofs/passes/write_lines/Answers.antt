@@ -1,16 +1,12 @@
 -- `write_lines` meets its contract. The loop's invariant: the lines of the commands before `at` are written, and `to` is behind them. The measure is
 -- what is left of the stream. Assumes nothing.
-use Prim.Native.Nat.{◌-◌}
 use mathlib.Core.Path.{sym, ap, ◌∙◌}
-use borrow.Author.Rules.{rules}
 use native.Mathlib.Omega.{arith}
-use lib.ListN.{length}
 use Rattle.bits.specs.Memory.{written_at}
-use Rattle.bits.proofs.Memory.{puts_length}
 use Rattle.walk.specs.Told.{told_step}
 use Rattle.walk.specs.declared.step.Step.{Step}
 use Rattle.walk.proofs.Steps.{step_on}
-use Rattle.listings.proofs.Walking.{Listed, listed_none, listed_room, listed_line, listed_last, listed_next, step_text, rest_after}
+use Rattle.listings.proofs.Walking.{listed_room, listed_last, listed_next, step_text, rest_after}
 use Rattle.listings.proofs.passes.write_lines.Goals as goal
 
 pub put_line-to-requires-clause-found_in_bounds : goal.put_line-to-requires-clause-found_in_bounds

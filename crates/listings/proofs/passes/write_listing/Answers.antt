@@ -1,6 +1,5 @@
 -- `write_listing` meets its contract. Assumes nothing.
 use mathlib.Core.Path.{ap}
-use borrow.Author.Rules.{rules}
 use Rattle.listings.specs.Listing.{listing_of}
 use Rattle.listings.specs.Told.{told_listing}
 use Rattle.listings.proofs.Into.{into_refused, fits_of, into_written}

@@ -12,6 +12,7 @@ use Rattle.walk.proofs.Steps.{found_past, found_end, room_stands, room_stops}
 use Rattle.walk.proofs.command.downlink_at.Goals as goal
 use Rattle.walk.proofs.command.downlink_at.Goals.{After-len-len}
 
+-- the typed command ends in the stream, where the code says
 ends : (c : After-len-len) → c.args.at + 1 + c.len-len.result ≤ length c.args.stream.now
 ends c =
     let a = c.args in
@@ -28,8 +29,6 @@ pub downlink_command-command-requires : goal.downlink_command-command-requires
 downlink_command-command-requires c =
     room_stands (length_of sent_down) _ c.if-stream-at.false
     (sym c.downlink_fits-verdict.ensures ∙ ap told_verdict c.in-Accepted.is)
-
--- the typed command ends in the stream, where the code says
 
 pub returns-in-Refused : goal.returns-in-Refused
 returns-in-Refused c =

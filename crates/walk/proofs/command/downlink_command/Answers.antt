@@ -34,7 +34,6 @@ unfolding tabulate
 one_in c k key rule = arm_in c k 1 _ key rule (bytes_from 0 c.args.stream.now (c.args.at + 1) (room_in c k 1 key rule))
 
 -- where no other row of the table fits
-
 left_in : (c : Start) → length_in (without 4 rows) Down c.args.cid ≡ none → c.args.cid ≡ 0x06
 left_in c h = row_left 4 rows Down c.args.cid _ h (known_is (length_of sent_down) c.args.stream.now c.args.at c.args.cid c.requires)
 

@@ -1,13 +1,8 @@
 -- `Record::write` meets its contract. Assumes nothing.
-use Prim.Native.Nat.{ℕ, ◌+◌, ◌≤◌}
-use mathlib.Core.Path.{◌≡◌, sym, ap, ◌∙◌, subst}
 use native.Mathlib.Omega.{arith}
-use lib.ListN.{length, set, length-set}
-use lib.Seq.{length-paste}
 use Rattle.bits.proofs.Memory.{no_room}
 use Rattle.build.specs.Records.{held_by, command_bytes}
-use Rattle.build.proofs.Writes.{counted_le, stored_all}
-use borrow.Author.Rules.{rules}
+use Rattle.build.proofs.Writes.{stored_all}
 use Rattle.build.proofs.record.Record.write.Goals as goal
 
 pub returns-then-out-at : goal.returns-then-out-at

@@ -17,7 +17,6 @@ unfolding Exact of_bits
 exact = (refl, (refl, (refl, (refl, (refl, (refl, (refl, (refl, (refl, (refl, (refl, (refl, (refl, (refl, (refl, (refl, tt))))))))))))))))
 
 -- with a fraction of zeros it is no NaN, whatever stands above it
-
 no_nan : (above : ℕ) → T (not (nan_bits binary32 (above * 2 ^ 23 % 2 ^ 32)))
 unfolding nan_bits
 no_nan above =
