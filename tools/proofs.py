@@ -95,6 +95,11 @@ def rattle(verb, folder, *given):
     return done.returncode, done.stdout
 
 
+def has_kept(name):
+    """Whether checks of a crate kept what they proved."""
+    return (ROOT / "crates" / name / "out/incremental").is_dir()
+
+
 def kept(name, to):
     """Gives a check a folder of its own for what it proves, begun with what checks of the crate kept; such a file is replaced, and never changed."""
 
@@ -106,9 +111,8 @@ def kept(name, to):
             pass
         return shutil.copy2(one, other)
 
-    start = ROOT / "crates" / name / "out/incremental"
-    if start.is_dir():
-        shutil.copytree(start, to, copy_function=link)
+    if has_kept(name):
+        shutil.copytree(ROOT / "crates" / name / "out/incremental", to, copy_function=link)
     else:
         to.mkdir(parents=True)
     return ["--incremental", to]
