@@ -30,6 +30,7 @@ fn steps(nano_seconds: u32) -> u8
     (nano_seconds / 3_906_250 % 256) as u8
 }
 
+#[tactic(auto, unfolding(crate::specs::Setters::nano_seconds_at))]
 fn nano_seconds_in(image: &mut [u8], nano_seconds: u32) -> Verdict
     requires { 5 < length image.old }
     ensures { (told_verdict result, image.new) ≡ nano_seconds_at image.old nano_seconds }
