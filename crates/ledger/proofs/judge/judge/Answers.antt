@@ -63,7 +63,7 @@ pub loop-cid-preserved : goal.loop-cid-preserved
 loop-cid-preserved c =
     let a = c.args in
     judged_next a.rules a.stream.now a.pending.now a.listed a.room c.loop-cid.invariant (step_is (goal.at.loop-cid-preserved c).In-Command)
-    c.need_of-need.ensures c.fault_of-fault.ensures c.if-fault-ne0.false c.left_after-left.ensures
+    c.need_of-need.ensures c.fault_of-fault.ensures (omega arith) c.left_after-left.ensures
 
 pub returns-then-fault-ne0 : goal.returns-then-fault-ne0
 returns-then-fault-ne0 c =

@@ -14,4 +14,4 @@ returns-then-last-ne10-clause-result_value c = let a = c.args in
 
 pub returns-clause-result_value : goal.returns-clause-result_value
 returns-clause-result_value c = let a = c.args in
-    sym (closed_newline a.text.now a.end a.len c.if-text-end.false c.if-last-ne10.false)
+    sym (closed_newline a.text.now a.end a.len c.if-text-end.false (omega arith))

@@ -34,7 +34,7 @@ field_at-read-requires-clause-at_in_bounds c = let r = room (goal.at.field_at-re
 
 pub returns-then-ok-clause-stream_after : goal.returns-then-ok-clause-stream_after
 returns-then-ok-clause-stream_after c = let a = c.args in
-    let f = c.field_at-read in line_told a.text.now a.at c.number_at-found.ensures.value_value c.number_at-found.ensures.next_value c.if-behind-at.false c.if-value-gt4294967295.false
+    let f = c.field_at-read in line_told a.text.now a.at c.number_at-found.ensures.value_value c.number_at-found.ensures.next_value c.if-behind-at.false (omega arith)
     (sym c.heading_at-sent.ensures ∙ ap (λ (b : Bool). cond b (some c.heading_at-sent.result.direction) none) c.if-ok.true)
     f.result f.new.stream f.ensures.stream_after
 

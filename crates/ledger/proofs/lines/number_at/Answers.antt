@@ -1,7 +1,7 @@
 -- `number_at` meets its contract. The loop's invariant: the digits before `i` are read, and mean `value`. The measure is what is left of the text.
 -- Assumes nothing.
 use Prim.Native.Nat.{◌-◌}
-use borrow.Author.Rules.{rules}
+use native.Mathlib.Omega.{arith}
 use lib.ListN.{length}
 use Rattle.ledger.proofs.TracingSteps.{Counted, counted_none, counted_more, counted_end, counted_other, counted_large, number_zero}
 use Rattle.ledger.proofs.lines.number_at.Goals as goal
@@ -20,29 +20,29 @@ loop-i-preserved c =
     c.loop-i-test.true c.digit-d.ensures c.if-d-gt9.false c.if-value-gt429496729.false
 
 pub returns-after-loop-i-clause-value_value : goal.returns-after-loop-i-clause-value_value
-returns-after-loop-i-clause-value_value c = let n = counted_end c.args.text.now c.args.at c.loop-i.invariant c.requires c.if-zero-eq48.false c.loop-i-test.false in
+returns-after-loop-i-clause-value_value c = let n = counted_end c.args.text.now c.args.at c.loop-i.invariant c.requires (λ e. omega arith) c.loop-i-test.false in
     n.means
 
 pub returns-after-loop-i-clause-next_value : goal.returns-after-loop-i-clause-next_value
-returns-after-loop-i-clause-next_value c = let n = counted_end c.args.text.now c.args.at c.loop-i.invariant c.requires c.if-zero-eq48.false c.loop-i-test.false in
+returns-after-loop-i-clause-next_value c = let n = counted_end c.args.text.now c.args.at c.loop-i.invariant c.requires (λ e. omega arith) c.loop-i-test.false in
     n.there
 
 pub returns-then-d-gt9-clause-value_value : goal.returns-then-d-gt9-clause-value_value
-returns-then-d-gt9-clause-value_value c = let n = counted_other c.args.text.now c.args.at c.loop-i.invariant c.requires c.if-zero-eq48.false
+returns-then-d-gt9-clause-value_value c = let n = counted_other c.args.text.now c.args.at c.loop-i.invariant c.requires (λ e. omega arith)
     c.loop-i-test.true c.digit-d.ensures c.if-d-gt9.true in
     n.means
 
 pub returns-then-d-gt9-clause-next_value : goal.returns-then-d-gt9-clause-next_value
-returns-then-d-gt9-clause-next_value c = let n = counted_other c.args.text.now c.args.at c.loop-i.invariant c.requires c.if-zero-eq48.false
+returns-then-d-gt9-clause-next_value c = let n = counted_other c.args.text.now c.args.at c.loop-i.invariant c.requires (λ e. omega arith)
     c.loop-i-test.true c.digit-d.ensures c.if-d-gt9.true in
     n.there
 
 pub returns-then-value-gt429496729-clause-value_value : goal.returns-then-value-gt429496729-clause-value_value
 returns-then-value-gt429496729-clause-value_value c =
-    let n = counted_large c.args.text.now c.args.at c.loop-i.invariant c.requires c.if-zero-eq48.false c.if-value-gt429496729.true in
+    let n = counted_large c.args.text.now c.args.at c.loop-i.invariant c.requires (λ e. omega arith) c.if-value-gt429496729.true in
     n.means
 
 pub returns-then-value-gt429496729-clause-next_value : goal.returns-then-value-gt429496729-clause-next_value
 returns-then-value-gt429496729-clause-next_value c =
-    let n = counted_large c.args.text.now c.args.at c.loop-i.invariant c.requires c.if-zero-eq48.false c.if-value-gt429496729.true in
+    let n = counted_large c.args.text.now c.args.at c.loop-i.invariant c.requires (λ e. omega arith) c.if-value-gt429496729.true in
     n.there
