@@ -88,10 +88,12 @@ def words(name, rlibs=rlib):
 
 
 def rattle(verb, folder, *given):
-    """Runs `rattle` in a crate's folder, and gives its status and all that it said."""
-    done = subprocess.run(
-        [kit() / "bin/rattle", verb, *given], cwd=folder, stdin=subprocess.DEVNULL, stdout=subprocess.PIPE, stderr=subprocess.STDOUT, text=True, errors="replace"
-    )
+    """Runs `rattle` in a crate's folder, and gives its status and all that it said. Where it is killed, most likely for memory, it is run once more."""
+    how = {"cwd": folder, "stdin": subprocess.DEVNULL, "stdout": subprocess.PIPE, "stderr": subprocess.STDOUT, "text": True, "errors": "replace"}
+    for _ in range(2):
+        done = subprocess.run([kit() / "bin/rattle", verb, *given], **how)
+        if done.returncode >= 0:
+            break
     return done.returncode, done.stdout
 
 
