@@ -13,14 +13,6 @@ use Rattle.build.proofs.Judging.{at_most_six}
 use Rattle.build.proofs.Sums.{sum_more, sum_refused, sum_end, not_too_many}
 use Rattle.build.proofs.Slots.{slot-at, no_part, a_part}
 use Rattle.build.proofs.packed.mac_commands_len.Goals as goal
-use Rattle.build.proofs.packed.mac_commands_len.Goals.{Else-count-gt4096}
-
-few : (c : Else-count-gt4096)
-    → sum_from (length_of c.args.rules) 0 0 (slots_of c.args.records.now)
-    ≡ total_of (length_of c.args.rules) (slots_of c.args.records.now)
-few c =
-    let a = c.args in
-    not_too_many (length_of a.rules) (slots_of a.records.now) (omega (arith, c.count.ensures))
 
 pub loop-i-preserved : goal.loop-i-preserved
 loop-i-preserved c =
@@ -50,7 +42,7 @@ returns-in-Refused c =
     ∙ ap told_judged c.in-Refused.is in
     sym (sum_refused (length_of a.rules) (slots_of s) l.i l.sum _ _ (slot-at s l.i h) j)
     ∙ l.invariant.2
-    ∙ few (goal.at.returns-in-Refused c).Else-count-gt4096
+    ∙ not_too_many (length_of a.rules) (slots_of s) (omega (arith, c.count.ensures))
 
 pub returns-then-records-gt0 : goal.returns-then-records-gt0
 returns-then-records-gt0 c =
@@ -61,7 +53,7 @@ returns-then-records-gt0 c =
     sym (sum_refused (length_of a.rules) (slots_of s) (length s / 8) l.sum part 3 (a_part s (λ (e : length s % 8 ≡ 0). omega arith)) refl)
     ∙ ap (λ (k : ℕ). sum_from (length_of a.rules) k l.sum (drop k (slots_of s))) (sym i-is)
     ∙ l.invariant.2
-    ∙ few (goal.at.returns-then-records-gt0 c).Else-count-gt4096
+    ∙ not_too_many (length_of a.rules) (slots_of s) (omega (arith, c.count.ensures))
 
 pub returns : goal.returns
 returns c =
@@ -72,4 +64,4 @@ returns c =
     sym (sum_end (length_of a.rules) (slots_of s) (length s / 8) l.sum (no_part s (omega arith)))
     ∙ ap (λ (k : ℕ). sum_from (length_of a.rules) k l.sum (drop k (slots_of s))) (sym i-is)
     ∙ l.invariant.2
-    ∙ few (goal.at.returns c).Else-count-gt4096
+    ∙ not_too_many (length_of a.rules) (slots_of s) (omega (arith, c.count.ensures))

@@ -6,10 +6,10 @@ use native.Mathlib.Omega.{arith}
 use lib.ListN.{length, drop, length-drop}
 use Rattle.ledger.proofs.TracingSteps.{pairs_fit, pairs_few, field_end, field_dash, field_nothing, field_bytes}
 use Rattle.ledger.proofs.lines.field_at.Goals as goal
-use Rattle.ledger.proofs.lines.field_at.Goals.{Else-n-eq0}
+use Rattle.ledger.proofs.lines.field_at.Goals.{After-pairs-n}
 
 -- the pairs have room in the text
-module _ (c : Else-n-eq0) where
+module _ (c : After-pairs-n) where
   few : c.pairs-n.result ≤ 255
   few = omega (arith, c.pairs-n.ensures.value, pairs_few 255 (drop c.args.at c.args.text.now))
 
@@ -33,11 +33,11 @@ returns-then-n-eq0-clause-stream_after c =
     sym (field_nothing c.args.text.now c.args.at c.if-text-at.false c.if-first-eq45.false (sym c.pairs-n.ensures.value ∙ c.if-n-eq0.true))
 
 pub closed_at-requires-2 : goal.closed_at-requires-2
-closed_at-requires-2 c = let l = fit c in let h = c.requires.at_in_bounds in search rules
+closed_at-requires-2 c = let l = fit (goal.at.closed_at-requires-2 c).After-pairs-n in let h = c.requires.at_in_bounds in search rules
 
 pub returns-clause-stream_after : goal.returns-clause-stream_after
 returns-clause-stream_after c = let a = c.args in
     let r = c.closed_at-2 in
-    let m = few (goal.at.returns-clause-stream_after c).Else-n-eq0 in
+    let m = few (goal.at.returns-clause-stream_after c).After-pairs-n in
     let n = r.ensures.len_le_len in field_bytes a.text.now a.at c.if-text-at.false c.if-first-eq45.false c.pairs-n.new.stream
-    c.pairs-n.ensures.value c.pairs-n.ensures.stream_after c.if-n-eq0.false r.result r.ensures.result_value
+    c.pairs-n.ensures.value c.pairs-n.ensures.stream_after (λ e. omega arith) r.result r.ensures.result_value
