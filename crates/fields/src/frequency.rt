@@ -1,35 +1,28 @@
 ghost use Rattle.std.specs.Prelude.{◌≡◌};
+ghost use Rattle.table.specs.Told.{told};
 ghost use Rattle.fields.specs.Frequency.{bytes_of, hertz};
 ghost use Rattle.fields.specs.Lists.{exactly};
-ghost use Rattle.fields.specs.Told.{told_frequency};
 
 use table::Refusal;
 
 // A channel's central frequency, in steps of 100 Hz: three bytes, low byte first.
-#[derive(Clone, Copy)]
+#[derive(Clone, Copy, PartialEq, Eq)]
 pub struct Frequency(u8, u8, u8);
 
-#[derive(Clone, Copy)]
-pub enum FrequencyAnswer {
-    Read(Frequency),
-    Refused(Refusal),
+impl From<[u8; 3]> for Frequency {
+    ghost from_gives = { λ bytes frequency. bytes_of frequency ≡ bytes };
+
+    fn from(bytes: [u8; 3]) -> Self {
+        Frequency(bytes[0], bytes[1], bytes[2])
+    }
 }
 
 impl Frequency {
-    pub fn new(bytes: &[u8]) -> FrequencyAnswer
-        ensures { told_frequency result ≡ exactly 3 bytes.now }
+    pub fn new(bytes: &[u8]) -> Result<Self, Refusal>
+        ensures { told bytes_of result ≡ exactly 3 bytes.now }
     {
-        if bytes.len() == 3 {
-            FrequencyAnswer::Read(Frequency(bytes[0], bytes[1], bytes[2]))
-        } else {
-            FrequencyAnswer::Refused(Refusal::WrongLength)
-        }
-    }
-
-    pub fn from(v: [u8; 3]) -> Frequency
-        ensures { bytes_of result ≡ v }
-    {
-        Frequency(v[0], v[1], v[2])
+        let bytes = bytes.as_array().ok_or(Refusal::WrongLength)?;
+        Ok(Frequency::from(*bytes))
     }
 
     // The frequency in Hz.
