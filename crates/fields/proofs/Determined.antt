@@ -105,30 +105,29 @@ frequency_as_ref_one : Fixed frequency_as_ref.Post
 frequency_as_ref_one _ _ _ _ _ _ p q = p ∙ sym q
 
 -- of a mask of any width
-module _ (n : ℕ) (fits : Fits w64 n) where
-  mask_default_one : Fixed (mask_default.Post n fits)
-  mask_default_one _ _ _ _ _ _ p q = ap (λ (m : List ℕ). record { 0 = m }) (p ∙ sym q)
+mask_default_one : (n : ℕ) (fits : Fits w64 n) → Fixed (mask_default.Post n fits)
+mask_default_one n fits _ _ _ _ _ _ p q = ap (λ (m : List ℕ). record { 0 = m }) (p ∙ sym q)
 
-  mask_new_one : Fixed (mask_new.Post n fits)
-  mask_new_one _ _ _ _ _ _ p q = tells (λ m. m.0) (λ m. record { 0 = m }) (λ _. refl) (p ∙ sym q)
+mask_new_one : (n : ℕ) (fits : Fits w64 n) → Fixed (mask_new.Post n fits)
+mask_new_one n fits _ _ _ _ _ _ p q = tells (λ m. m.0) (λ m. record { 0 = m }) (λ _. refl) (p ∙ sym q)
 
-  mask_from_one : Fixed (mask_from.Post n fits)
-  mask_from_one _ _ _ _ _ _ p q = ap (λ (m : List ℕ). record { 0 = m }) (p ∙ sym q)
+mask_from_one : (n : ℕ) (fits : Fits w64 n) → Fixed (mask_from.Post n fits)
+mask_from_one n fits _ _ _ _ _ _ p q = ap (λ (m : List ℕ). record { 0 = m }) (p ∙ sym q)
 
-  mask_as_ref_one : Fixed (mask_as_ref.Post n fits)
-  mask_as_ref_one _ _ _ _ _ _ p q = p ∙ sym q
+mask_as_ref_one : (n : ℕ) (fits : Fits w64 n) → Fixed (mask_as_ref.Post n fits)
+mask_as_ref_one n fits _ _ _ _ _ _ p q = p ∙ sym q
 
-  mask_set_bank_one : FixedWith (λ s. s.0.now) (mask_set_bank.Post n fits)
-  mask_set_bank_one _ _ _ _ _ _ p q = beside_tells (λ v m. (v, record { 0 = m })) (p ∙ sym q)
+mask_set_bank_one : (n : ℕ) (fits : Fits w64 n) → FixedWith (λ s. s.0.now) (mask_set_bank.Post n fits)
+mask_set_bank_one n fits _ _ _ _ _ _ p q = beside_tells (λ v m. (v, record { 0 = m })) (p ∙ sym q)
 
-  mask_get_index_one : Fixed (mask_get_index.Post n fits)
-  mask_get_index_one _ _ _ _ _ _ p q = tells (λ b. b) (λ b. b) (λ _. refl) (p ∙ sym q)
+mask_get_index_one : (n : ℕ) (fits : Fits w64 n) → Fixed (mask_get_index.Post n fits)
+mask_get_index_one n fits _ _ _ _ _ _ p q = tells (λ b. b) (λ b. b) (λ _. refl) (p ∙ sym q)
 
-  mask_set_channel_one : FixedWith (λ s. s.0.now) (mask_set_channel.Post n fits)
-  mask_set_channel_one _ _ _ _ _ _ p q = beside_tells (λ v m. (v, record { 0 = m })) (p ∙ sym q)
+mask_set_channel_one : (n : ℕ) (fits : Fits w64 n) → FixedWith (λ s. s.0.now) (mask_set_channel.Post n fits)
+mask_set_channel_one n fits _ _ _ _ _ _ p q = beside_tells (λ v m. (v, record { 0 = m })) (p ∙ sym q)
 
-  mask_is_enabled_one : Fixed (mask_is_enabled.Post n fits)
-  mask_is_enabled_one _ _ _ _ _ _ p q = tells (λ b. b) (λ b. b) (λ _. refl) (p ∙ sym q)
+mask_is_enabled_one : (n : ℕ) (fits : Fits w64 n) → Fixed (mask_is_enabled.Post n fits)
+mask_is_enabled_one n fits _ _ _ _ _ _ p q = tells (λ b. b) (λ b. b) (λ _. refl) (p ∙ sym q)
 
 mask2_statuses_one : Fixed mask2_statuses.Post
 mask2_statuses_one _ _ _ _ _ _ p q = p ∙ sym q
