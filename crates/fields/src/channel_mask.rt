@@ -106,11 +106,11 @@ impl<const N: usize> ChannelMask<N> {
     fn first_statuses<const CHANNELS: usize>(&self) -> [bool; CHANNELS]
         ensures { result ≡ statuses_of CHANNELS self.now.0 }
     {
-        let mut out = [false; CHANNELS];
-        for channel in 0..CHANNELS {
-            out[channel] = self.is_on(channel);
-        }
-        out
+        array::from_fn(
+            |channel| -> bool
+                ensures { result ≡ channel_on self.entry.now.0 channel }
+            { self.is_on(channel) },
+        )
     }
 }
 
