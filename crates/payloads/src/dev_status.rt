@@ -1,16 +1,34 @@
 ghost use Rattle.std.specs.Prelude.{◌≡◌};
-ghost use Rattle.table.specs.Table.{named, flag_of};
+ghost use Rattle.table.specs.Table.{named};
 ghost use Rattle.fields.specs.Lists.{exactly};
 ghost use Rattle.fields.specs.Places.{number_at, dev_status_ans_battery};
 ghost use Rattle.payloads.specs.Bytes.{dev_status_ans_bytes, dev_status_req_bytes};
 ghost use Rattle.payloads.specs.Meanings.{margin_of};
-ghost use Rattle.payloads.specs.Told.{told_dev_status_ans};
+ghost use Rattle.table.specs.Told.{told};
 
+use crate::command_type::CommandType;
+use crate::payload_bytes::sized;
 use table::Refusal;
 
 // Asks for the status of the device.
-#[derive(Clone, Copy)]
+#[derive(Clone, Copy, PartialEq, Eq)]
 pub struct DevStatusReqPayload();
+
+impl CommandType for DevStatusReqPayload {
+    ghost command = { named "DevStatusReq" };
+
+    fn cid() -> u8 {
+        0x06
+    }
+
+    fn uplink() -> bool {
+        false
+    }
+
+    fn len() -> usize {
+        0
+    }
+}
 
 impl DevStatusReqPayload {
     // Any slice, of which nothing is kept.
@@ -18,24 +36,6 @@ impl DevStatusReqPayload {
         ensures { result ≡ record {} }
     {
         DevStatusReqPayload()
-    }
-
-    pub fn cid() -> u8
-        ensures { result ≡ (named "DevStatusReq").cid }
-    {
-        0x06
-    }
-
-    pub fn uplink() -> bool
-        ensures { result ≡ flag_of (named "DevStatusReq") }
-    {
-        false
-    }
-
-    pub fn len() -> usize
-        ensures { result ≡ (named "DevStatusReq").size }
-    {
-        0
     }
 
     pub fn bytes(self) -> [u8; 0]
@@ -46,42 +46,31 @@ impl DevStatusReqPayload {
 }
 
 // Tells the status of the device.
-#[derive(Clone, Copy)]
+#[derive(Clone, Copy, PartialEq, Eq)]
 pub struct DevStatusAnsPayload(pub u8, pub u8);
 
-#[derive(Clone, Copy)]
-pub enum DevStatusAnsAnswer {
-    Read(DevStatusAnsPayload),
-    Refused(Refusal),
-}
+impl CommandType for DevStatusAnsPayload {
+    ghost command = { named "DevStatusAns" };
 
-impl DevStatusAnsPayload {
-    pub fn new(data: &[u8]) -> DevStatusAnsAnswer
-        ensures { told_dev_status_ans result ≡ exactly (named "DevStatusAns").size «data».now }
-    {
-        if data.len() == 2 {
-            DevStatusAnsAnswer::Read(DevStatusAnsPayload(data[0], data[1]))
-        } else {
-            DevStatusAnsAnswer::Refused(Refusal::WrongLength)
-        }
-    }
-
-    pub fn cid() -> u8
-        ensures { result ≡ (named "DevStatusAns").cid }
-    {
+    fn cid() -> u8 {
         0x06
     }
 
-    pub fn uplink() -> bool
-        ensures { result ≡ flag_of (named "DevStatusAns") }
-    {
+    fn uplink() -> bool {
         true
     }
 
-    pub fn len() -> usize
-        ensures { result ≡ (named "DevStatusAns").size }
-    {
+    fn len() -> usize {
         2
+    }
+}
+
+impl DevStatusAnsPayload {
+    pub fn new(data: &[u8]) -> Result<DevStatusAnsPayload, Refusal>
+        ensures { told dev_status_ans_bytes result ≡ exactly (named "DevStatusAns").size «data».now }
+    {
+        let [a, b]: [u8; 2] = sized(data)?;
+        Ok(DevStatusAnsPayload(a, b))
     }
 
     pub fn bytes(self) -> [u8; 2]

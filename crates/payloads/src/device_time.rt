@@ -1,15 +1,33 @@
 ghost use Rattle.std.specs.Prelude.{[], ◌∷◌, ◌≡◌};
-ghost use Rattle.table.specs.Table.{named, flag_of};
+ghost use Rattle.table.specs.Table.{named};
 ghost use Rattle.fields.specs.Lists.{exactly, low_first};
 ghost use Rattle.payloads.specs.Bytes.{device_time_ans_bytes, device_time_req_bytes};
 ghost use Rattle.payloads.specs.Meanings.{nano_seconds_of, seconds_of};
-ghost use Rattle.payloads.specs.Told.{told_device_time_ans};
+ghost use Rattle.table.specs.Told.{told};
 
+use crate::command_type::CommandType;
+use crate::payload_bytes::sized;
 use table::Refusal;
 
 // Asks for the network time.
-#[derive(Clone, Copy)]
+#[derive(Clone, Copy, PartialEq, Eq)]
 pub struct DeviceTimeReqPayload();
+
+impl CommandType for DeviceTimeReqPayload {
+    ghost command = { named "DeviceTimeReq" };
+
+    fn cid() -> u8 {
+        0x0D
+    }
+
+    fn uplink() -> bool {
+        true
+    }
+
+    fn len() -> usize {
+        0
+    }
+}
 
 impl DeviceTimeReqPayload {
     // Any slice, of which nothing is kept.
@@ -17,24 +35,6 @@ impl DeviceTimeReqPayload {
         ensures { result ≡ record {} }
     {
         DeviceTimeReqPayload()
-    }
-
-    pub fn cid() -> u8
-        ensures { result ≡ (named "DeviceTimeReq").cid }
-    {
-        0x0D
-    }
-
-    pub fn uplink() -> bool
-        ensures { result ≡ flag_of (named "DeviceTimeReq") }
-    {
-        true
-    }
-
-    pub fn len() -> usize
-        ensures { result ≡ (named "DeviceTimeReq").size }
-    {
-        0
     }
 
     pub fn bytes(self) -> [u8; 0]
@@ -52,44 +52,31 @@ fn low_first(a: u8, b: u8, c: u8, d: u8) -> u32
 }
 
 // Tells the network time: the seconds, and steps of 1/256 second.
-#[derive(Clone, Copy)]
+#[derive(Clone, Copy, PartialEq, Eq)]
 pub struct DeviceTimeAnsPayload(pub u8, pub u8, pub u8, pub u8, pub u8);
 
-#[derive(Clone, Copy)]
-pub enum DeviceTimeAnsAnswer {
-    Read(DeviceTimeAnsPayload),
-    Refused(Refusal),
-}
+impl CommandType for DeviceTimeAnsPayload {
+    ghost command = { named "DeviceTimeAns" };
 
-impl DeviceTimeAnsPayload {
-    pub fn new(data: &[u8]) -> DeviceTimeAnsAnswer
-        ensures { told_device_time_ans result ≡ exactly (named "DeviceTimeAns").size «data».now }
-    {
-        if data.len() == 5 {
-            DeviceTimeAnsAnswer::Read(DeviceTimeAnsPayload(
-                data[0], data[1], data[2], data[3], data[4],
-            ))
-        } else {
-            DeviceTimeAnsAnswer::Refused(Refusal::WrongLength)
-        }
-    }
-
-    pub fn cid() -> u8
-        ensures { result ≡ (named "DeviceTimeAns").cid }
-    {
+    fn cid() -> u8 {
         0x0D
     }
 
-    pub fn uplink() -> bool
-        ensures { result ≡ flag_of (named "DeviceTimeAns") }
-    {
+    fn uplink() -> bool {
         false
     }
 
-    pub fn len() -> usize
-        ensures { result ≡ (named "DeviceTimeAns").size }
-    {
+    fn len() -> usize {
         5
+    }
+}
+
+impl DeviceTimeAnsPayload {
+    pub fn new(data: &[u8]) -> Result<DeviceTimeAnsPayload, Refusal>
+        ensures { told device_time_ans_bytes result ≡ exactly (named "DeviceTimeAns").size «data».now }
+    {
+        let [a, b, c, d, e]: [u8; 5] = sized(data)?;
+        Ok(DeviceTimeAnsPayload(a, b, c, d, e))
     }
 
     pub fn bytes(self) -> [u8; 5]

@@ -1,10 +1,12 @@
 ghost use Rattle.std.specs.Prelude.{max, ◌≡◌};
-ghost use Rattle.table.specs.Table.{named, flag_of};
+ghost use Rattle.table.specs.Table.{named};
 ghost use Rattle.fields.specs.Lists.{exactly};
 ghost use Rattle.payloads.specs.Bytes.{rx_timing_setup_ans_bytes, rx_timing_setup_req_bytes};
 ghost use Rattle.payloads.specs.Meanings.{delay_of};
-ghost use Rattle.payloads.specs.Told.{told_rx_timing_setup_req};
+ghost use Rattle.table.specs.Told.{told};
 
+use crate::command_type::CommandType;
+use crate::payload_bytes::sized;
 use table::Refusal;
 
 // The seconds that a delay's code stands for.
@@ -15,42 +17,31 @@ fn in_seconds(code: u8) -> u8
 }
 
 // Sets when the first receive window opens.
-#[derive(Clone, Copy)]
+#[derive(Clone, Copy, PartialEq, Eq)]
 pub struct RXTimingSetupReqPayload(pub u8);
 
-#[derive(Clone, Copy)]
-pub enum RXTimingSetupReqAnswer {
-    Read(RXTimingSetupReqPayload),
-    Refused(Refusal),
-}
+impl CommandType for RXTimingSetupReqPayload {
+    ghost command = { named "RXTimingSetupReq" };
 
-impl RXTimingSetupReqPayload {
-    pub fn new(data: &[u8]) -> RXTimingSetupReqAnswer
-        ensures { told_rx_timing_setup_req result ≡ exactly (named "RXTimingSetupReq").size «data».now }
-    {
-        if data.len() == 1 {
-            RXTimingSetupReqAnswer::Read(RXTimingSetupReqPayload(data[0]))
-        } else {
-            RXTimingSetupReqAnswer::Refused(Refusal::WrongLength)
-        }
-    }
-
-    pub fn cid() -> u8
-        ensures { result ≡ (named "RXTimingSetupReq").cid }
-    {
+    fn cid() -> u8 {
         0x08
     }
 
-    pub fn uplink() -> bool
-        ensures { result ≡ flag_of (named "RXTimingSetupReq") }
-    {
+    fn uplink() -> bool {
         false
     }
 
-    pub fn len() -> usize
-        ensures { result ≡ (named "RXTimingSetupReq").size }
-    {
+    fn len() -> usize {
         1
+    }
+}
+
+impl RXTimingSetupReqPayload {
+    pub fn new(data: &[u8]) -> Result<RXTimingSetupReqPayload, Refusal>
+        ensures { told rx_timing_setup_req_bytes result ≡ exactly (named "RXTimingSetupReq").size «data».now }
+    {
+        let [a]: [u8; 1] = sized(data)?;
+        Ok(RXTimingSetupReqPayload(a))
     }
 
     pub fn bytes(self) -> [u8; 1]
@@ -68,8 +59,24 @@ impl RXTimingSetupReqPayload {
 }
 
 // Tells that an RXTimingSetupReq was received.
-#[derive(Clone, Copy)]
+#[derive(Clone, Copy, PartialEq, Eq)]
 pub struct RXTimingSetupAnsPayload();
+
+impl CommandType for RXTimingSetupAnsPayload {
+    ghost command = { named "RXTimingSetupAns" };
+
+    fn cid() -> u8 {
+        0x08
+    }
+
+    fn uplink() -> bool {
+        true
+    }
+
+    fn len() -> usize {
+        0
+    }
+}
 
 impl RXTimingSetupAnsPayload {
     // Any slice, of which nothing is kept.
@@ -77,24 +84,6 @@ impl RXTimingSetupAnsPayload {
         ensures { result ≡ record {} }
     {
         RXTimingSetupAnsPayload()
-    }
-
-    pub fn cid() -> u8
-        ensures { result ≡ (named "RXTimingSetupAns").cid }
-    {
-        0x08
-    }
-
-    pub fn uplink() -> bool
-        ensures { result ≡ flag_of (named "RXTimingSetupAns") }
-    {
-        true
-    }
-
-    pub fn len() -> usize
-        ensures { result ≡ (named "RXTimingSetupAns").size }
-    {
-        0
     }
 
     pub fn bytes(self) -> [u8; 0]

@@ -1,50 +1,41 @@
 ghost use Rattle.std.specs.Prelude.{◌≡◌};
-ghost use Rattle.table.specs.Table.{named, flag_of};
+ghost use Rattle.table.specs.Table.{named};
 ghost use Rattle.fields.specs.Lists.{exactly};
 ghost use Rattle.fields.specs.Places.{yes_at, tx_param_setup_req_downlink_dwell_time, tx_param_setup_req_uplink_dwell_time};
 ghost use Rattle.payloads.specs.Bytes.{tx_param_setup_ans_bytes, tx_param_setup_req_bytes};
 ghost use Rattle.payloads.specs.Meanings.{max_eirp_of};
-ghost use Rattle.payloads.specs.Told.{told_tx_param_setup_req};
+ghost use Rattle.table.specs.Told.{told};
 
+use crate::command_type::CommandType;
+use crate::payload_bytes::sized;
 use table::Refusal;
 
 // Limits the dwell times and the power of the device.
-#[derive(Clone, Copy)]
+#[derive(Clone, Copy, PartialEq, Eq)]
 pub struct TXParamSetupReqPayload(pub u8);
 
-#[derive(Clone, Copy)]
-pub enum TXParamSetupReqAnswer {
-    Read(TXParamSetupReqPayload),
-    Refused(Refusal),
-}
+impl CommandType for TXParamSetupReqPayload {
+    ghost command = { named "TXParamSetupReq" };
 
-impl TXParamSetupReqPayload {
-    pub fn new(data: &[u8]) -> TXParamSetupReqAnswer
-        ensures { told_tx_param_setup_req result ≡ exactly (named "TXParamSetupReq").size «data».now }
-    {
-        if data.len() == 1 {
-            TXParamSetupReqAnswer::Read(TXParamSetupReqPayload(data[0]))
-        } else {
-            TXParamSetupReqAnswer::Refused(Refusal::WrongLength)
-        }
-    }
-
-    pub fn cid() -> u8
-        ensures { result ≡ (named "TXParamSetupReq").cid }
-    {
+    fn cid() -> u8 {
         0x09
     }
 
-    pub fn uplink() -> bool
-        ensures { result ≡ flag_of (named "TXParamSetupReq") }
-    {
+    fn uplink() -> bool {
         false
     }
 
-    pub fn len() -> usize
-        ensures { result ≡ (named "TXParamSetupReq").size }
-    {
+    fn len() -> usize {
         1
+    }
+}
+
+impl TXParamSetupReqPayload {
+    pub fn new(data: &[u8]) -> Result<TXParamSetupReqPayload, Refusal>
+        ensures { told tx_param_setup_req_bytes result ≡ exactly (named "TXParamSetupReq").size «data».now }
+    {
+        let [a]: [u8; 1] = sized(data)?;
+        Ok(TXParamSetupReqPayload(a))
     }
 
     pub fn bytes(self) -> [u8; 1]
@@ -93,8 +84,24 @@ impl TXParamSetupReqPayload {
 }
 
 // Tells that a TXParamSetupReq was received.
-#[derive(Clone, Copy)]
+#[derive(Clone, Copy, PartialEq, Eq)]
 pub struct TXParamSetupAnsPayload();
+
+impl CommandType for TXParamSetupAnsPayload {
+    ghost command = { named "TXParamSetupAns" };
+
+    fn cid() -> u8 {
+        0x09
+    }
+
+    fn uplink() -> bool {
+        true
+    }
+
+    fn len() -> usize {
+        0
+    }
+}
 
 impl TXParamSetupAnsPayload {
     // Any slice, of which nothing is kept.
@@ -102,24 +109,6 @@ impl TXParamSetupAnsPayload {
         ensures { result ≡ record {} }
     {
         TXParamSetupAnsPayload()
-    }
-
-    pub fn cid() -> u8
-        ensures { result ≡ (named "TXParamSetupAns").cid }
-    {
-        0x09
-    }
-
-    pub fn uplink() -> bool
-        ensures { result ≡ flag_of (named "TXParamSetupAns") }
-    {
-        true
-    }
-
-    pub fn len() -> usize
-        ensures { result ≡ (named "TXParamSetupAns").size }
-    {
-        0
     }
 
     pub fn bytes(self) -> [u8; 0]
