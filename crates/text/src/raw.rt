@@ -2,6 +2,7 @@
 ghost use Rattle.std.specs.Prelude.{[], ◌∷◌, ◌≡◌};
 ghost use Rattle.bits.specs.Memory.{written_at};
 
+#[tactic(auto, using(bits::proofs::Memory::no_room, crate::proofs::Writing::one_room))]
 pub fn put_byte(out: &mut [u8], at: usize, byte: u8) -> usize
     ensures { (result, out.new) ≡ written_at out.old at (byte ∷ []) }
 {
@@ -12,6 +13,7 @@ pub fn put_byte(out: &mut [u8], at: usize, byte: u8) -> usize
     at + 1
 }
 
+#[tactic(auto, using(bits::proofs::Memory::no_room, crate::proofs::Writing::copied))]
 pub fn put_bytes(out: &mut [u8], at: usize, bytes: &[u8]) -> usize
     ensures { (result, out.new) ≡ written_at out.old at bytes.now }
 {
@@ -21,11 +23,7 @@ pub fn put_bytes(out: &mut [u8], at: usize, bytes: &[u8]) -> usize
     if out.len() - at < bytes.len() {
         return at;
     }
-    let mut next = at;
-    let mut i: usize = 0;
-    while i < bytes.len() {
-        next = put_byte(out, next, bytes[i]);
-        i += 1;
-    }
-    next
+    let end = at + bytes.len();
+    out[at..end].copy_from_slice(bytes);
+    end
 }
