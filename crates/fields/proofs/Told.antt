@@ -2,13 +2,12 @@
 use Prim.Native.Nat.{ℕ}
 use mathlib.Core.Path.{◌≡◌, refl}
 use mathlib.Core.List.{List}
-use lib.ListN.{get_or}
 use Rattle.bits.proofs.Fixed.{by_inverse}
 use Rattle.fields.specs.declared.frequency.Frequency.{Frequency}
 use Rattle.fields.specs.Frequency.{bytes_of}
 
 unfoldable pub bytes_back : List ℕ → Frequency
-bytes_back s = record { 0 = get_or s 0 0; 1 = get_or s 1 0; 2 = get_or s 2 0 }
+bytes_back s = record { 0 = s }
 
 pub frequency_back : (f : Frequency) → bytes_back (bytes_of f) ≡ f
 unfolding bytes_back

@@ -56,7 +56,8 @@ impl<const N: usize> ChannelMask<N> {
         self.0
     }
 
-    // A refused call leaves the mask as it was (RULES: F2).
+    // A refused call leaves the mask as it was (RULES: F2). A bank that get_mut lends is lost to the proof (tried), so here and in set_channel
+    // the place is tested first.
     pub fn set_bank(&mut self, index: usize, value: u8) -> Result<(), Refusal>
         ensures { (told_verdict result, self.new.0) ≡ set_bank self.old.0 index value }
     {
@@ -114,6 +115,7 @@ impl<const N: usize> ChannelMask<N> {
     }
 }
 
+// statuses stands once for each width: an array of 8 N channels is a computed const argument, which the language has not.
 impl ChannelMask<2> {
     // Channel by channel, whether it is switched on.
     pub fn statuses(self) -> [bool; 16]

@@ -7,13 +7,13 @@ use table::Refusal;
 
 // A channel's central frequency, in steps of 100 Hz: three bytes, low byte first.
 #[derive(Clone, Copy, PartialEq, Eq)]
-pub struct Frequency(u8, u8, u8);
+pub struct Frequency([u8; 3]);
 
 impl From<[u8; 3]> for Frequency {
     ghost from_gives = { λ bytes frequency. bytes_of frequency ≡ bytes };
 
     fn from(bytes: [u8; 3]) -> Self {
-        Frequency(bytes[0], bytes[1], bytes[2])
+        Frequency(bytes)
     }
 }
 
@@ -22,19 +22,20 @@ impl Frequency {
         ensures { told bytes_of result ≡ exactly 3 bytes.now }
     {
         let bytes = bytes.as_array().ok_or(Refusal::WrongLength)?;
-        Ok(Frequency::from(*bytes))
+        Ok(Frequency(*bytes))
     }
 
     // The frequency in Hz.
     pub fn value(self) -> u32
         ensures { result ≡ hertz (bytes_of self) }
     {
-        ((self.0 as u32) + 256 * (self.1 as u32) + 65536 * (self.2 as u32)) * 100
+        let [low, middle, high] = self.0;
+        u32::from_le_bytes([low, middle, high, 0]) * 100
     }
 
     pub fn as_ref(self) -> [u8; 3]
         ensures { result ≡ bytes_of self }
     {
-        [self.0, self.1, self.2]
+        self.0
     }
 }

@@ -1,7 +1,7 @@
 ghost use Rattle.std.specs.Prelude.{◌≡◌};
 ghost use Rattle.fields.specs.Settings.{channel_mask_control, number_of_transmissions};
 
-// The redundancy byte of LinkADRReq.
+// The redundancy byte of LinkADRReq: a type of its own beside DLSettings, with readers of its own (RULES: S1, M2).
 #[derive(Clone, Copy, PartialEq, Eq)]
 pub struct Redundancy(u8);
 
