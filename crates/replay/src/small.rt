@@ -1,9 +1,7 @@
 // Entries 01 to 04: the small fields.
 use crate::answer::Answer;
-use crate::reading::byte;
-use fields::{
-    DLSettings, DataRateRange, DataRateRangeAnswer, Frequency, FrequencyAnswer, Redundancy,
-};
+use crate::reading::{byte, first};
+use fields::{DLSettings, DataRateRange, Frequency, Redundancy};
 
 fn told_settings(told: Answer, s: DLSettings) -> Answer {
     told.byte(s.rx1_dr_offset())
@@ -24,40 +22,26 @@ fn told_range(told: Answer, r: DataRateRange) -> Answer {
 }
 
 fn dl_settings(b: u8) -> Answer {
-    told_settings(
-        told_settings(Answer::new(), DLSettings::new(b)),
-        DLSettings::from(b),
-    )
+    let told = told_settings(Answer::new(), DLSettings::new(b));
+    told_settings(told, DLSettings::from(b))
 }
 
 fn redundancy(b: u8) -> Answer {
-    told_redundancy(
-        told_redundancy(Answer::new(), Redundancy::new(b)),
-        Redundancy::from(b),
-    )
-}
-
-fn checked_range(told: Answer, b: u8) -> Answer {
-    match DataRateRange::new(b) {
-        DataRateRangeAnswer::Read(range) => told_range(told.byte(0), range),
-        DataRateRangeAnswer::Refused(reason) => told.byte(reason.number()),
-    }
+    let told = told_redundancy(Answer::new(), Redundancy::new(b));
+    told_redundancy(told, Redundancy::from(b))
 }
 
 fn data_rate_range(b: u8) -> Answer {
     let told = told_range(Answer::new(), DataRateRange::new_from_raw(b));
     let told = told_range(told, DataRateRange::from(b));
-    checked_range(told.verdict(DataRateRange::can_build_from(b)), b)
+    let told = told.verdict(DataRateRange::can_build_from(b));
+    told.answered(DataRateRange::new(b), |told, range| told_range(told, range))
 }
 
 fn frequency(input: &[u8]) -> Answer {
-    match Frequency::new(input) {
-        FrequencyAnswer::Read(f) => {
-            let same = Frequency::from([byte(input, 0), byte(input, 1), byte(input, 2)]);
-            Answer::new().byte(0).frequency(f).frequency(same)
-        }
-        FrequencyAnswer::Refused(reason) => Answer::new().byte(reason.number()),
-    }
+    Answer::new().answered(Frequency::new(input), |told, f| {
+        told.frequency(f).frequency(Frequency::from(first(input)))
+    })
 }
 
 pub(crate) fn answer(which: u8, input: &[u8]) -> Answer {
