@@ -8,11 +8,10 @@ use Rattle.table.specs.Table.{Command}
 use Rattle.creators.specs.declared.kinds.Image.{Image}
 use Rattle.creators.specs.declared.kinds.UplinkKind.{UplinkKind}
 use Rattle.creators.specs.declared.kinds.UplinkKind.TheVariants as Up
-use Rattle.creators.specs.declared.kinds.UplinkMacCommandCreator.{UplinkMacCommandCreator}
 use Rattle.creators.specs.declared.kinds.DownlinkKind.{DownlinkKind}
 use Rattle.creators.specs.declared.kinds.DownlinkKind.TheVariants as Down
-use Rattle.creators.specs.declared.kinds.DownlinkMacCommandCreator.{DownlinkMacCommandCreator}
-use Rattle.creators.specs.Kinds.{uplink_command, downlink_command, told_uplink, told_downlink, told_image}
+use Rattle.creators.specs.declared.kinds.MacCommandCreator.{MacCommandCreator}
+use Rattle.creators.specs.Kinds.{uplink_command, downlink_command, told_creator, told_uplink, told_downlink, told_image}
 
 -- a kind by its command's CID: these begin at 2 and leave out 0B and 0C, so the last is 0D's
 kind_of : {K : Type 0} → List K → K → Command → K
@@ -37,8 +36,13 @@ uplink_kind Up.DeviceTimeReq = refl
 pub uplink_kind_tells : {k m : UplinkKind} → uplink_command k ≡ uplink_command m → k ≡ m
 uplink_kind_tells p = by_inverse uplink_command uplink_of uplink_kind p
 
-pub uplink_tells : {c e : UplinkMacCommandCreator} → told_uplink c ≡ told_uplink e → c ≡ e
-uplink_tells p = ap₂ (λ k i. record { kind = k; image = i }) (uplink_kind_tells (ap (λ t. t.0) p)) (ap (λ t. t.1) p)
+-- a creator of a direction whose kinds are no one command
+pub creator_tells : {K : Type 0} (command : K → Command) → ((k m : K) → command k ≡ command m → k ≡ m)
+    → {c e : MacCommandCreator K} → told_creator command c ≡ told_creator command e → c ≡ e
+creator_tells command tells p = ap₂ (λ k i. record { kind = k; image = i }) (tells _ _ (ap (λ t. t.0) p)) (ap (λ t. t.1) p)
+
+pub uplink_tells : {c e : MacCommandCreator UplinkKind} → told_uplink c ≡ told_uplink e → c ≡ e
+uplink_tells p = creator_tells uplink_command (λ _ _ e. uplink_kind_tells e) p
 
 downlink_of : Command → DownlinkKind
 downlink_of c = kind_of (Down.LinkCheckAns ∷ Down.LinkADRReq ∷ Down.DutyCycleReq ∷ Down.RXParamSetupReq ∷ Down.DevStatusReq ∷ Down.NewChannelReq ∷ Down.RXTimingSetupReq ∷ Down.TXParamSetupReq ∷ Down.DlChannelReq ∷ []) Down.DeviceTimeAns c
@@ -59,8 +63,8 @@ downlink_kind Down.DeviceTimeAns = refl
 pub downlink_kind_tells : {k m : DownlinkKind} → downlink_command k ≡ downlink_command m → k ≡ m
 downlink_kind_tells p = by_inverse downlink_command downlink_of downlink_kind p
 
-pub downlink_tells : {c e : DownlinkMacCommandCreator} → told_downlink c ≡ told_downlink e → c ≡ e
-downlink_tells p = ap₂ (λ k i. record { kind = k; image = i }) (downlink_kind_tells (ap (λ t. t.0) p)) (ap (λ t. t.1) p)
+pub downlink_tells : {c e : MacCommandCreator DownlinkKind} → told_downlink c ≡ told_downlink e → c ≡ e
+downlink_tells p = creator_tells downlink_command (λ _ _ e. downlink_kind_tells e) p
 
 image_told : ℕ × List ℕ → Image
 image_told i = record { len = i.0; bytes = i.1 }
