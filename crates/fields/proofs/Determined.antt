@@ -7,7 +7,7 @@ use mir.Syntax.{w64}
 use Rattle.bits.proofs.Fixed.{Fixed, FixedWith}
 use Rattle.table.proofs.Told.{tells, verdict_tells, beside_tells}
 use Rattle.fields.specs.Frequency.{bytes_of}
-use Rattle.fields.proofs.Told.{bytes_back, frequency_back, frequency_tells}
+use Rattle.fields.proofs.Told.{frequency_tells}
 use Rattle.fields.proofs.dl_settings.DLSettings.new.Reads as dl_new
 use Rattle.fields.proofs.dl_settings.DLSettingsFromU8.from.Reads as dl_from
 use Rattle.fields.proofs.dl_settings.DLSettings.rx1_dr_offset.Reads as dl_rx1_dr_offset
@@ -93,7 +93,7 @@ range_raw_value_one : Fixed range_raw_value.Post
 range_raw_value_one _ _ _ _ _ _ p q = p ∙ sym q
 
 frequency_new_one : Fixed frequency_new.Post
-frequency_new_one _ _ _ _ _ _ p q = tells bytes_of bytes_back frequency_back (p ∙ sym q)
+frequency_new_one _ _ _ _ _ _ p q = tells bytes_of (λ s. record { 0 = s }) (λ _. refl) (p ∙ sym q)
 
 frequency_from_one : Fixed frequency_from.Post
 frequency_from_one _ _ _ _ _ _ p q = frequency_tells (p ∙ sym q)
