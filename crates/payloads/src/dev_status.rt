@@ -1,10 +1,10 @@
 ghost use Rattle.std.specs.Prelude.{◌≡◌};
 ghost use Rattle.table.specs.Table.{named};
+ghost use Rattle.table.specs.Told.{told};
 ghost use Rattle.fields.specs.Lists.{exactly};
 ghost use Rattle.fields.specs.Places.{number_at, dev_status_ans_battery};
 ghost use Rattle.payloads.specs.Bytes.{dev_status_ans_bytes, dev_status_req_bytes};
 ghost use Rattle.payloads.specs.Meanings.{margin_of};
-ghost use Rattle.table.specs.Told.{told};
 
 use crate::command_type::CommandType;
 use crate::payload_bytes::sized;
@@ -32,10 +32,10 @@ impl CommandType for DevStatusReqPayload {
 
 impl DevStatusReqPayload {
     // Any slice, of which nothing is kept.
-    pub fn new(_data: &[u8]) -> DevStatusReqPayload
+    pub fn new(_data: &[u8]) -> Self
         ensures { result ≡ record {} }
     {
-        DevStatusReqPayload()
+        Self()
     }
 
     pub fn bytes(self) -> [u8; 0]
@@ -66,11 +66,11 @@ impl CommandType for DevStatusAnsPayload {
 }
 
 impl DevStatusAnsPayload {
-    pub fn new(data: &[u8]) -> Result<DevStatusAnsPayload, Refusal>
+    pub fn new(data: &[u8]) -> Result<Self, Refusal>
         ensures { told dev_status_ans_bytes result ≡ exactly (named "DevStatusAns").size «data».now }
     {
         let [a, b]: [u8; 2] = sized(data)?;
-        Ok(DevStatusAnsPayload(a, b))
+        Ok(Self(a, b))
     }
 
     pub fn bytes(self) -> [u8; 2]

@@ -1,9 +1,9 @@
-ghost use Rattle.std.specs.Prelude.{[], ◌∷◌, ◌≡◌};
+ghost use Rattle.std.specs.Prelude.{◌≡◌};
 ghost use Rattle.table.specs.Table.{named};
-ghost use Rattle.fields.specs.Lists.{exactly, low_first};
+ghost use Rattle.table.specs.Told.{told};
+ghost use Rattle.fields.specs.Lists.{exactly};
 ghost use Rattle.payloads.specs.Bytes.{device_time_ans_bytes, device_time_req_bytes};
 ghost use Rattle.payloads.specs.Meanings.{nano_seconds_of, seconds_of};
-ghost use Rattle.table.specs.Told.{told};
 
 use crate::command_type::CommandType;
 use crate::payload_bytes::sized;
@@ -31,10 +31,10 @@ impl CommandType for DeviceTimeReqPayload {
 
 impl DeviceTimeReqPayload {
     // Any slice, of which nothing is kept.
-    pub fn new(_data: &[u8]) -> DeviceTimeReqPayload
+    pub fn new(_data: &[u8]) -> Self
         ensures { result ≡ record {} }
     {
-        DeviceTimeReqPayload()
+        Self()
     }
 
     pub fn bytes(self) -> [u8; 0]
@@ -42,13 +42,6 @@ impl DeviceTimeReqPayload {
     {
         []
     }
-}
-
-// The number that four bytes make, low byte first.
-fn low_first(a: u8, b: u8, c: u8, d: u8) -> u32
-    ensures { result ≡ low_first (a ∷ b ∷ c ∷ d ∷ []) }
-{
-    (a as u32) + 256 * (b as u32) + 65536 * (c as u32) + 16777216 * (d as u32)
 }
 
 // Tells the network time: the seconds, and steps of 1/256 second.
@@ -72,11 +65,11 @@ impl CommandType for DeviceTimeAnsPayload {
 }
 
 impl DeviceTimeAnsPayload {
-    pub fn new(data: &[u8]) -> Result<DeviceTimeAnsPayload, Refusal>
+    pub fn new(data: &[u8]) -> Result<Self, Refusal>
         ensures { told device_time_ans_bytes result ≡ exactly (named "DeviceTimeAns").size «data».now }
     {
         let [a, b, c, d, e]: [u8; 5] = sized(data)?;
-        Ok(DeviceTimeAnsPayload(a, b, c, d, e))
+        Ok(Self(a, b, c, d, e))
     }
 
     pub fn bytes(self) -> [u8; 5]
@@ -89,7 +82,7 @@ impl DeviceTimeAnsPayload {
     pub fn seconds(self) -> u32
         ensures { result ≡ seconds_of (device_time_ans_bytes self) }
     {
-        low_first(self.0, self.1, self.2, self.3)
+        u32::from_le_bytes([self.0, self.1, self.2, self.3])
     }
 
     // The rest of the network time.

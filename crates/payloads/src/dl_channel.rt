@@ -1,11 +1,11 @@
 ghost use Rattle.std.specs.Prelude.{◌≡◌};
 ghost use Rattle.table.specs.Table.{named};
+ghost use Rattle.table.specs.Told.{told};
 ghost use Rattle.fields.specs.Frequency.{bytes_of};
 ghost use Rattle.fields.specs.Lists.{exactly};
 ghost use Rattle.fields.specs.Places.{bytes_at, number_at, yes_at, dl_channel_ans_channel_freq_ack, dl_channel_ans_uplink_freq_ack, dl_channel_req_channel_index, dl_channel_req_frequency};
 ghost use Rattle.payloads.specs.Acceptance.{dl_channel_ans_accepts};
 ghost use Rattle.payloads.specs.Bytes.{dl_channel_ans_bytes, dl_channel_req_bytes};
-ghost use Rattle.table.specs.Told.{told};
 
 use crate::command_type::CommandType;
 use crate::payload_bytes::sized;
@@ -33,11 +33,11 @@ impl CommandType for DlChannelReqPayload {
 }
 
 impl DlChannelReqPayload {
-    pub fn new(data: &[u8]) -> Result<DlChannelReqPayload, Refusal>
+    pub fn new(data: &[u8]) -> Result<Self, Refusal>
         ensures { told dl_channel_req_bytes result ≡ exactly (named "DlChannelReq").size «data».now }
     {
         let [a, b, c, d]: [u8; 4] = sized(data)?;
-        Ok(DlChannelReqPayload(a, b, c, d))
+        Ok(Self(a, b, c, d))
     }
 
     pub fn bytes(self) -> [u8; 4]
@@ -82,11 +82,11 @@ impl CommandType for DlChannelAnsPayload {
 }
 
 impl DlChannelAnsPayload {
-    pub fn new(data: &[u8]) -> Result<DlChannelAnsPayload, Refusal>
+    pub fn new(data: &[u8]) -> Result<Self, Refusal>
         ensures { told dl_channel_ans_bytes result ≡ exactly (named "DlChannelAns").size «data».now }
     {
         let [a]: [u8; 1] = sized(data)?;
-        Ok(DlChannelAnsPayload(a))
+        Ok(Self(a))
     }
 
     pub fn bytes(self) -> [u8; 1]

@@ -1,10 +1,10 @@
 ghost use Rattle.std.specs.Prelude.{◌≡◌};
 ghost use Rattle.table.specs.Table.{named};
+ghost use Rattle.table.specs.Told.{told};
 ghost use Rattle.fields.specs.Lists.{exactly};
 ghost use Rattle.fields.specs.Places.{number_at, duty_cycle_req_max_duty_cycle};
 ghost use Rattle.payloads.specs.Bytes.{duty_cycle_ans_bytes, duty_cycle_req_bytes};
 ghost use Rattle.payloads.specs.Meanings.{max_duty_cycle_of};
-ghost use Rattle.table.specs.Told.{told};
 
 use crate::command_type::CommandType;
 use crate::payload_bytes::sized;
@@ -31,11 +31,11 @@ impl CommandType for DutyCycleReqPayload {
 }
 
 impl DutyCycleReqPayload {
-    pub fn new(data: &[u8]) -> Result<DutyCycleReqPayload, Refusal>
+    pub fn new(data: &[u8]) -> Result<Self, Refusal>
         ensures { told duty_cycle_req_bytes result ≡ exactly (named "DutyCycleReq").size «data».now }
     {
         let [a]: [u8; 1] = sized(data)?;
-        Ok(DutyCycleReqPayload(a))
+        Ok(Self(a))
     }
 
     pub fn bytes(self) -> [u8; 1]
@@ -82,10 +82,10 @@ impl CommandType for DutyCycleAnsPayload {
 
 impl DutyCycleAnsPayload {
     // Any slice, of which nothing is kept.
-    pub fn new(_data: &[u8]) -> DutyCycleAnsPayload
+    pub fn new(_data: &[u8]) -> Self
         ensures { result ≡ record {} }
     {
-        DutyCycleAnsPayload()
+        Self()
     }
 
     pub fn bytes(self) -> [u8; 0]

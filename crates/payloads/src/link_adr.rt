@@ -1,10 +1,10 @@
 ghost use Rattle.std.specs.Prelude.{◌≡◌};
 ghost use Rattle.table.specs.Table.{named};
+ghost use Rattle.table.specs.Told.{told};
 ghost use Rattle.fields.specs.Lists.{exactly};
 ghost use Rattle.fields.specs.Places.{bytes_at, number_at, yes_at, link_adr_ans_channel_mask_ack, link_adr_ans_data_rate_ack, link_adr_ans_power_ack, link_adr_req_channel_mask, link_adr_req_data_rate, link_adr_req_redundancy, link_adr_req_tx_power};
 ghost use Rattle.payloads.specs.Acceptance.{link_adr_ans_accepts};
 ghost use Rattle.payloads.specs.Bytes.{link_adr_ans_bytes, link_adr_req_bytes};
-ghost use Rattle.table.specs.Told.{told};
 
 use crate::command_type::CommandType;
 use crate::payload_bytes::sized;
@@ -40,11 +40,11 @@ impl From<[u8; 4]> for LinkADRReqPayload {
 }
 
 impl LinkADRReqPayload {
-    pub fn new(data: &[u8]) -> Result<LinkADRReqPayload, Refusal>
+    pub fn new(data: &[u8]) -> Result<Self, Refusal>
         ensures { told link_adr_req_bytes result ≡ exactly (named "LinkADRReq").size «data».now }
     {
         let [a, b, c, d]: [u8; 4] = sized(data)?;
-        Ok(LinkADRReqPayload(a, b, c, d))
+        Ok(Self(a, b, c, d))
     }
 
     pub fn bytes(self) -> [u8; 4]
@@ -103,11 +103,11 @@ impl CommandType for LinkADRAnsPayload {
 }
 
 impl LinkADRAnsPayload {
-    pub fn new(data: &[u8]) -> Result<LinkADRAnsPayload, Refusal>
+    pub fn new(data: &[u8]) -> Result<Self, Refusal>
         ensures { told link_adr_ans_bytes result ≡ exactly (named "LinkADRAns").size «data».now }
     {
         let [a]: [u8; 1] = sized(data)?;
-        Ok(LinkADRAnsPayload(a))
+        Ok(Self(a))
     }
 
     pub fn bytes(self) -> [u8; 1]

@@ -1,9 +1,9 @@
 ghost use Rattle.std.specs.Prelude.{◌≡◌};
 ghost use Rattle.table.specs.Table.{named};
+ghost use Rattle.table.specs.Told.{told};
 ghost use Rattle.fields.specs.Lists.{exactly};
 ghost use Rattle.fields.specs.Places.{number_at, link_check_ans_gateway_count, link_check_ans_margin};
 ghost use Rattle.payloads.specs.Bytes.{link_check_ans_bytes, link_check_req_bytes};
-ghost use Rattle.table.specs.Told.{told};
 
 use crate::command_type::CommandType;
 use crate::payload_bytes::sized;
@@ -31,10 +31,10 @@ impl CommandType for LinkCheckReqPayload {
 
 impl LinkCheckReqPayload {
     // Any slice, of which nothing is kept.
-    pub fn new(_data: &[u8]) -> LinkCheckReqPayload
+    pub fn new(_data: &[u8]) -> Self
         ensures { result ≡ record {} }
     {
-        LinkCheckReqPayload()
+        Self()
     }
 
     pub fn bytes(self) -> [u8; 0]
@@ -73,11 +73,11 @@ impl From<[u8; 2]> for LinkCheckAnsPayload {
 }
 
 impl LinkCheckAnsPayload {
-    pub fn new(data: &[u8]) -> Result<LinkCheckAnsPayload, Refusal>
+    pub fn new(data: &[u8]) -> Result<Self, Refusal>
         ensures { told link_check_ans_bytes result ≡ exactly (named "LinkCheckAns").size «data».now }
     {
         let [a, b]: [u8; 2] = sized(data)?;
-        Ok(LinkCheckAnsPayload(a, b))
+        Ok(Self(a, b))
     }
 
     pub fn bytes(self) -> [u8; 2]

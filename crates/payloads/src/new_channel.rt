@@ -1,11 +1,11 @@
 ghost use Rattle.std.specs.Prelude.{◌≡◌};
 ghost use Rattle.table.specs.Table.{named};
+ghost use Rattle.table.specs.Told.{told};
 ghost use Rattle.fields.specs.Frequency.{bytes_of};
 ghost use Rattle.fields.specs.Lists.{exactly};
 ghost use Rattle.fields.specs.Places.{bytes_at, number_at, yes_at, new_channel_ans_channel_freq_ack, new_channel_ans_data_rate_range_ack, new_channel_req_channel_index, new_channel_req_data_rate_range, new_channel_req_frequency};
 ghost use Rattle.payloads.specs.Acceptance.{new_channel_ans_accepts};
 ghost use Rattle.payloads.specs.Bytes.{new_channel_ans_bytes, new_channel_req_bytes};
-ghost use Rattle.table.specs.Told.{told};
 
 use crate::command_type::CommandType;
 use crate::payload_bytes::sized;
@@ -33,11 +33,11 @@ impl CommandType for NewChannelReqPayload {
 }
 
 impl NewChannelReqPayload {
-    pub fn new(data: &[u8]) -> Result<NewChannelReqPayload, Refusal>
+    pub fn new(data: &[u8]) -> Result<Self, Refusal>
         ensures { told new_channel_req_bytes result ≡ exactly (named "NewChannelReq").size «data».now }
     {
         let [a, b, c, d, e]: [u8; 5] = sized(data)?;
-        Ok(NewChannelReqPayload(a, b, c, d, e))
+        Ok(Self(a, b, c, d, e))
     }
 
     pub fn bytes(self) -> [u8; 5]
@@ -89,11 +89,11 @@ impl CommandType for NewChannelAnsPayload {
 }
 
 impl NewChannelAnsPayload {
-    pub fn new(data: &[u8]) -> Result<NewChannelAnsPayload, Refusal>
+    pub fn new(data: &[u8]) -> Result<Self, Refusal>
         ensures { told new_channel_ans_bytes result ≡ exactly (named "NewChannelAns").size «data».now }
     {
         let [a]: [u8; 1] = sized(data)?;
-        Ok(NewChannelAnsPayload(a))
+        Ok(Self(a))
     }
 
     pub fn bytes(self) -> [u8; 1]

@@ -5,7 +5,7 @@ ghost use Rattle.payloads.specs.Commands.{in_five};
 
 use table::Refusal;
 
-// The payload of any command: the first len of the five bytes, of which those after it are 0.
+// The payload of any command: the first len of the five bytes, of which those after it are 0. A buffer and its length, since there is no heap.
 #[derive(Clone, Copy, PartialEq, Eq)]
 pub struct PayloadBytes {
     pub len: usize,

@@ -1,11 +1,11 @@
 ghost use Rattle.std.specs.Prelude.{◌≡◌};
 ghost use Rattle.table.specs.Table.{named};
+ghost use Rattle.table.specs.Told.{told};
 ghost use Rattle.fields.specs.Frequency.{bytes_of};
 ghost use Rattle.fields.specs.Lists.{exactly};
 ghost use Rattle.fields.specs.Places.{bytes_at, number_at, yes_at, rx_param_setup_ans_channel_ack, rx_param_setup_ans_rx1_dr_offset_ack, rx_param_setup_ans_rx2_data_rate_ack, rx_param_setup_req_dl_settings, rx_param_setup_req_frequency};
 ghost use Rattle.payloads.specs.Acceptance.{rx_param_setup_ans_accepts};
 ghost use Rattle.payloads.specs.Bytes.{rx_param_setup_ans_bytes, rx_param_setup_req_bytes};
-ghost use Rattle.table.specs.Told.{told};
 
 use crate::command_type::CommandType;
 use crate::payload_bytes::sized;
@@ -33,11 +33,11 @@ impl CommandType for RXParamSetupReqPayload {
 }
 
 impl RXParamSetupReqPayload {
-    pub fn new(data: &[u8]) -> Result<RXParamSetupReqPayload, Refusal>
+    pub fn new(data: &[u8]) -> Result<Self, Refusal>
         ensures { told rx_param_setup_req_bytes result ≡ exactly (named "RXParamSetupReq").size «data».now }
     {
         let [a, b, c, d]: [u8; 4] = sized(data)?;
-        Ok(RXParamSetupReqPayload(a, b, c, d))
+        Ok(Self(a, b, c, d))
     }
 
     pub fn bytes(self) -> [u8; 4]
@@ -82,11 +82,11 @@ impl CommandType for RXParamSetupAnsPayload {
 }
 
 impl RXParamSetupAnsPayload {
-    pub fn new(data: &[u8]) -> Result<RXParamSetupAnsPayload, Refusal>
+    pub fn new(data: &[u8]) -> Result<Self, Refusal>
         ensures { told rx_param_setup_ans_bytes result ≡ exactly (named "RXParamSetupAns").size «data».now }
     {
         let [a]: [u8; 1] = sized(data)?;
-        Ok(RXParamSetupAnsPayload(a))
+        Ok(Self(a))
     }
 
     pub fn bytes(self) -> [u8; 1]

@@ -1,20 +1,13 @@
-ghost use Rattle.std.specs.Prelude.{max, ◌≡◌};
+ghost use Rattle.std.specs.Prelude.{◌≡◌};
 ghost use Rattle.table.specs.Table.{named};
+ghost use Rattle.table.specs.Told.{told};
 ghost use Rattle.fields.specs.Lists.{exactly};
 ghost use Rattle.payloads.specs.Bytes.{rx_timing_setup_ans_bytes, rx_timing_setup_req_bytes};
 ghost use Rattle.payloads.specs.Meanings.{delay_of};
-ghost use Rattle.table.specs.Told.{told};
 
 use crate::command_type::CommandType;
 use crate::payload_bytes::sized;
 use table::Refusal;
-
-// The seconds that a delay's code stands for.
-fn in_seconds(code: u8) -> u8
-    ensures { result ≡ max 1 code }
-{
-    if code == 0 { 1 } else { code }
-}
 
 // Sets when the first receive window opens.
 #[derive(Clone, Copy, PartialEq, Eq)]
@@ -37,11 +30,11 @@ impl CommandType for RXTimingSetupReqPayload {
 }
 
 impl RXTimingSetupReqPayload {
-    pub fn new(data: &[u8]) -> Result<RXTimingSetupReqPayload, Refusal>
+    pub fn new(data: &[u8]) -> Result<Self, Refusal>
         ensures { told rx_timing_setup_req_bytes result ≡ exactly (named "RXTimingSetupReq").size «data».now }
     {
         let [a]: [u8; 1] = sized(data)?;
-        Ok(RXTimingSetupReqPayload(a))
+        Ok(Self(a))
     }
 
     pub fn bytes(self) -> [u8; 1]
@@ -54,7 +47,8 @@ impl RXTimingSetupReqPayload {
     pub fn delay(self) -> u8
         ensures { result ≡ delay_of (rx_timing_setup_req_bytes self) }
     {
-        in_seconds(self.0 % 16)
+        let code = self.0 % 16;
+        code.max(1)
     }
 }
 
@@ -80,10 +74,10 @@ impl CommandType for RXTimingSetupAnsPayload {
 
 impl RXTimingSetupAnsPayload {
     // Any slice, of which nothing is kept.
-    pub fn new(_data: &[u8]) -> RXTimingSetupAnsPayload
+    pub fn new(_data: &[u8]) -> Self
         ensures { result ≡ record {} }
     {
-        RXTimingSetupAnsPayload()
+        Self()
     }
 
     pub fn bytes(self) -> [u8; 0]

@@ -1,10 +1,10 @@
 ghost use Rattle.std.specs.Prelude.{◌≡◌};
 ghost use Rattle.table.specs.Table.{named};
+ghost use Rattle.table.specs.Told.{told};
 ghost use Rattle.fields.specs.Lists.{exactly};
 ghost use Rattle.fields.specs.Places.{yes_at, tx_param_setup_req_downlink_dwell_time, tx_param_setup_req_uplink_dwell_time};
 ghost use Rattle.payloads.specs.Bytes.{tx_param_setup_ans_bytes, tx_param_setup_req_bytes};
 ghost use Rattle.payloads.specs.Meanings.{max_eirp_of};
-ghost use Rattle.table.specs.Told.{told};
 
 use crate::command_type::CommandType;
 use crate::payload_bytes::sized;
@@ -31,11 +31,11 @@ impl CommandType for TXParamSetupReqPayload {
 }
 
 impl TXParamSetupReqPayload {
-    pub fn new(data: &[u8]) -> Result<TXParamSetupReqPayload, Refusal>
+    pub fn new(data: &[u8]) -> Result<Self, Refusal>
         ensures { told tx_param_setup_req_bytes result ≡ exactly (named "TXParamSetupReq").size «data».now }
     {
         let [a]: [u8; 1] = sized(data)?;
-        Ok(TXParamSetupReqPayload(a))
+        Ok(Self(a))
     }
 
     pub fn bytes(self) -> [u8; 1]
@@ -62,24 +62,10 @@ impl TXParamSetupReqPayload {
     pub fn max_eirp(self) -> u8
         ensures { result ≡ max_eirp_of (tx_param_setup_req_bytes self) }
     {
-        match self.0 % 16 {
-            0 => 8,
-            1 => 10,
-            2 => 12,
-            3 => 13,
-            4 => 14,
-            5 => 16,
-            6 => 18,
-            7 => 20,
-            8 => 21,
-            9 => 24,
-            10 => 26,
-            11 => 27,
-            12 => 29,
-            13 => 30,
-            14 => 33,
-            _ => 36,
-        }
+        const POWERS: [u8; 16] = [
+            8, 10, 12, 13, 14, 16, 18, 20, 21, 24, 26, 27, 29, 30, 33, 36,
+        ];
+        POWERS[(self.0 % 16) as usize]
     }
 }
 
@@ -105,10 +91,10 @@ impl CommandType for TXParamSetupAnsPayload {
 
 impl TXParamSetupAnsPayload {
     // Any slice, of which nothing is kept.
-    pub fn new(_data: &[u8]) -> TXParamSetupAnsPayload
+    pub fn new(_data: &[u8]) -> Self
         ensures { result ≡ record {} }
     {
-        TXParamSetupAnsPayload()
+        Self()
     }
 
     pub fn bytes(self) -> [u8; 0]
