@@ -1,11 +1,9 @@
 -- Any two outcomes that a public function's contract admits are equal. Assumes nothing.
 use Prim.Native.Nat.{ℕ}
-use mathlib.Core.Path.{◌≡◌, refl, sym, ap, ap₂, ◌∙◌}
+use mathlib.Core.Path.{refl, sym, ap, ap₂, ◌∙◌}
 use mathlib.Core.List.{List}
-use denote.RattleType.{RattleType}
 use Rattle.bits.proofs.Fixed.{Fixed, FixedWith}
 use Rattle.table.proofs.Told.{beside_tells}
-use Rattle.creators.specs.declared.kinds.CommandKind.{Ghosts}
 use Rattle.creators.proofs.Told.{uplink_kind_tells, downlink_kind_tells, creator_tells, image_tells}
 use Rattle.creators.proofs.link_check.LinkCheckReqCreatorCreator1.new.Reads as link_check_req_new
 use Rattle.creators.proofs.link_check.LinkCheckReqCreatorDefault.default.Reads as link_check_req_default
@@ -642,7 +640,6 @@ creator_len_one A laws copies kinds kinds-dict clones clones-dict _ _ _ _ _ _ p 
 creator_build_one : (A : _) (laws : _) (copies : _) (kinds : _) (kinds-dict : _) (clones : _) (clones-dict : _) → Fixed (creator_build.Post A laws copies kinds kinds-dict clones clones-dict)
 creator_build_one A laws copies kinds kinds-dict clones clones-dict _ _ _ _ _ _ p q = image_tells (p ∙ sym q)
 
-creator_of_one : (A : RattleType) (n : _) (C : _) (laws : _) (fits : _) (laws-c : _) (copies : _) (copies-c : _) (kinds : Ghosts A.Denot) (kinds-dict : _) (clones : _) (clones-dict : _) (creates : _) (creates-dict : _) (clones-c : _) (clones-c-dict : _) (defaults : _) (defaults-dict : _)
-    → ((k m : _) → kinds.command k ≡ kinds.command m → k ≡ m)
+creator_of_one : (A : _) (n : _) (C : _) (laws : _) (fits : _) (laws-c : _) (copies : _) (copies-c : _) (kinds : _) (kinds-dict : _) (clones : _) (clones-dict : _) (creates : _) (creates-dict : _) (clones-c : _) (clones-c-dict : _) (defaults : _) (defaults-dict : _)
     → Fixed (creator_of.Post A n C laws fits laws-c copies copies-c kinds kinds-dict clones clones-dict creates creates-dict clones-c clones-c-dict defaults defaults-dict)
-creator_of_one A n C laws fits laws-c copies copies-c kinds kinds-dict clones clones-dict creates creates-dict clones-c clones-c-dict defaults defaults-dict tells _ _ _ _ _ _ p q = creator_tells kinds.command tells (p ∙ sym q)
+creator_of_one A n C laws fits laws-c copies copies-c kinds kinds-dict clones clones-dict creates creates-dict clones-c clones-c-dict defaults defaults-dict _ _ _ _ _ _ p q = creator_tells kinds.command kinds.apart (p ∙ sym q)

@@ -1,10 +1,10 @@
 // The two kinds of creators: which command it is, beside its image. The Rust has an enum of creators; here no variant holds an array.
-ghost use Rattle.std.specs.Prelude.{◌≡◌, ◌+◌, get_or};
+ghost use Rattle.std.specs.Prelude.{◌≡◌, ◌+◌};
 ghost use Rattle.table.specs.Table.{Command};
+ghost use Rattle.creators.specs.Apart.{uplink_kinds_apart, downlink_kinds_apart};
 ghost use Rattle.creators.specs.Kinds.{
   uplink_command,
   downlink_command,
-  padded,
   beside,
   built,
   told_creator,
@@ -23,6 +23,9 @@ pub struct Entry {
 // The commands of one direction.
 pub trait CommandKind: Copy {
     ghost command: { Self → Command };
+
+    // no two are one command
+    ghost apart: { (k m : Self) → command k ≡ command m → k ≡ m };
 
     fn entry(self) -> Entry
         ensures cid { result.cid ≡ (command self).cid }
@@ -46,6 +49,8 @@ pub enum UplinkKind {
 
 impl CommandKind for UplinkKind {
     ghost command = { uplink_command };
+
+    ghost apart = { uplink_kinds_apart };
 
     fn entry(self) -> Entry {
         match self {
@@ -81,6 +86,8 @@ pub enum DownlinkKind {
 impl CommandKind for DownlinkKind {
     ghost command = { downlink_command };
 
+    ghost apart = { downlink_kinds_apart };
+
     fn entry(self) -> Entry {
         match self {
             DownlinkKind::LinkCheckAns => Entry { cid: 0x02, size: 2 },
@@ -105,27 +112,6 @@ pub struct Image {
     pub bytes: [u8; 6],
 }
 
-// The byte at a place of the image, and 0 past its end.
-fn byte_at(image: &[u8], i: usize) -> u8
-    ensures { result ≡ get_or image.now i 0 }
-{
-    image.get(i).copied().unwrap_or(0)
-}
-
-#[tactic(auto, unfolding(crate::specs::Kinds::padded, fields::specs::Lists::tabulate))]
-fn padded(image: &[u8]) -> [u8; 6]
-    ensures { result ≡ padded image.now }
-{
-    [
-        byte_at(image, 0),
-        byte_at(image, 1),
-        byte_at(image, 2),
-        byte_at(image, 3),
-        byte_at(image, 4),
-        byte_at(image, 5),
-    ]
-}
-
 // A creator of any command of one direction.
 #[derive(Clone, Copy)]
 pub struct MacCommandCreator<K> {
@@ -139,13 +125,15 @@ pub type DownlinkMacCommandCreator = MacCommandCreator<DownlinkKind>;
 
 impl<K: CommandKind> MacCommandCreator<K> {
     // The creator's command, with its image.
+    #[tactic(auto, using(crate::proofs::Padded::in_room))]
     pub fn of<const N: usize, C: Creator<N, Kind = K>>(creator: C) -> Self
         ensures { told_creator K.command result ≡ beside C.command (C.image creator) }
     {
-        let image = creator.build();
+        let mut image = [0; 6];
+        image[..N].copy_from_slice(&creator.build());
         MacCommandCreator {
             kind: creator.kind(),
-            image: padded(&image),
+            image,
         }
     }
 
