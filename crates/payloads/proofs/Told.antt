@@ -3,6 +3,7 @@ use Prim.Native.Nat.{ℕ, ◌-◌}
 use mathlib.Core.Path.{◌≡◌, refl}
 use mathlib.Core.List.{List, [], ◌∷◌}
 use lib.ListN.{get_or}
+use native.Mathlib.Omega.{arith}
 use Rattle.std.specs.Prelude.{Result}
 use Rattle.bits.proofs.Fixed.{by_inverse}
 use Rattle.table.specs.declared.refusal.Refusal.{Refusal}
@@ -117,16 +118,7 @@ uplink_of x =
 
 pub uplink-back : (c : UplinkMacCommand) → uplink_of ((uplink_entry c).cid, uplink_bytes c) ≡ c
 unfolding uplink_of
-uplink-back (Uplink.LinkCheckReq p) = refl
-uplink-back (Uplink.LinkADRAns p) = refl
-uplink-back (Uplink.DutyCycleAns p) = refl
-uplink-back (Uplink.RXParamSetupAns p) = refl
-uplink-back (Uplink.DevStatusAns p) = refl
-uplink-back (Uplink.NewChannelAns p) = refl
-uplink-back (Uplink.RXTimingSetupAns p) = refl
-uplink-back (Uplink.TXParamSetupAns p) = refl
-uplink-back (Uplink.DlChannelAns p) = refl
-uplink-back (Uplink.DeviceTimeReq p) = refl
+uplink-back = grind arith
 
 pub downlink_of : ℕ × List ℕ → DownlinkMacCommand
 downlink_of x =
@@ -147,13 +139,4 @@ downlink_of x =
 
 pub downlink-back : (c : DownlinkMacCommand) → downlink_of ((downlink_entry c).cid, downlink_bytes c) ≡ c
 unfolding downlink_of
-downlink-back (Downlink.LinkCheckAns p) = refl
-downlink-back (Downlink.LinkADRReq p) = refl
-downlink-back (Downlink.DutyCycleReq p) = refl
-downlink-back (Downlink.RXParamSetupReq p) = refl
-downlink-back (Downlink.DevStatusReq p) = refl
-downlink-back (Downlink.NewChannelReq p) = refl
-downlink-back (Downlink.RXTimingSetupReq p) = refl
-downlink-back (Downlink.TXParamSetupReq p) = refl
-downlink-back (Downlink.DlChannelReq p) = refl
-downlink-back (Downlink.DeviceTimeAns p) = refl
+downlink-back = grind arith
