@@ -10,10 +10,10 @@ use native.Mathlib.Omega.{arith}
 use lib.ListN.{length, get_or, take, drop, length-drop, take-append-drop, drop_of_length-le}
 use lib.Seq.{drop-cons, drop-drop, length-take-le, take-append_seam}
 use borrow.Author.Tests.{le-leb, lt-leb, lt-ltb, le-ltb}
-use Rattle.table.specs.Answers.{Answer, given, refused, accepted}
+use Rattle.table.specs.Answers.{Answer, given, refused}
 use Rattle.walk.specs.Ownership.{Ends, nothing_left, no_cid, cut_short}
 use Rattle.walk.specs.Lanes.{more, Leads}
-use Rattle.walk.specs.Room.{StandsAt, room_for}
+use Rattle.walk.specs.Room.{room_for, read_by}
 use Rattle.walk.specs.Step.{Found, ended, command, stopped, first_of, first_move, found_at, Heading, heading, in_numbers, step_at, tally, tally_from}
 use Rattle.walk.specs.Walk.{Rule, Cmd, Ending, end, stop, place_of, Walk, finish, after, walk_from, size}
 use Rattle.walk.proofs.Laws.{ends_at, walk_ends, walk_command}
@@ -142,33 +142,47 @@ module _ (L : Rule) (s : List ℕ) where
         ap in_numbers (found_goes (command_here n h e g))
         ∙ ap (λ (k : ℕ). given (command (heading (get_or s at 0) k) (at + 1 + n))) (length-take-le n (drop (at + 1) s) (simp length-drop g))
 
-    -- ---- by whether the payload is all there
+    -- ---- a typed step: what its test and its reading say
 
-    stands_by : at < length s → (l : Option ℕ) → L (get_or s at 0) ≡ l → room_for l (length s - at) ≡ accepted → StandsAt L s at (get_or s at 0)
-    stands_by h none e p = let no_way : ◌≡◌ {A = ℕ} 0 1 = cc in absurd (omega arith)
-    stands_by h (some n) e p = by (dec_lt n (length s - at))
+    read_in : {c : Cmd} → at < length s → (l : Option ℕ) → L (get_or s at 0) ≡ l → given c ≡ read_by l (get_or s at 0) (drop (at + 1) s)
+        → given (command c (at + size c)) ≡ found_at L s at
+    read_in h none e r = let no_way : ◌≡◌ {A = ℕ} 0 1 = cc in absurd (omega arith)
+    read_in {c} h (some n) e r = by (dec_le n (length (drop (at + 1) s)))
       where
-        by : Dec (n < length s - at) → StandsAt L s at (get_or s at 0)
-        by (yes g) = record { len = n; next = at + 1 + n; step = step_command n h e (omega arith) }
-        by (no g) = let q = simp (le-ltb n (length s - at) (omega arith)) at p in let no_way : ◌≡◌ {A = ℕ} 0 1 = cc in absurd (omega arith)
+        by : Dec (n ≤ length (drop (at + 1) s)) → given (command c (at + size c)) ≡ found_at L s at
+        by (yes g) =
+            let q = simp (le-leb n (length (drop (at + 1) s)) g) at r in
+            let body_is : record { cid = get_or s at 0; body = take n (drop (at + 1) s) } ≡ c = cc in
+            let goes = command_here n h e (omega (arith, simp length-drop at g)) in
+            let len : length (take n (drop (at + 1) s)) ≡ n = length-take-le n (drop (at + 1) s) g in
+            let behind : at + (1 + length (take n (drop (at + 1) s))) ≡ at + 1 + n = omega arith in
+            ap (λ (d : Cmd). given (command d (at + size d))) (sym body_is)
+            ∙ ap (λ (k : ℕ). given (command (record { cid = get_or s at 0; body = take n (drop (at + 1) s) }) k)) behind
+            ∙ sym (found_goes goes)
+        by (no g) =
+            let short : length (drop (at + 1) s) < n = omega arith in
+            let q = simp (lt-leb n (length (drop (at + 1) s)) short) at r in
+            let no_way : ◌≡◌ {A = ℕ} 0 1 = cc in
+            absurd (omega arith)
 
-    pub room_stands : at < length s → room_for (L (get_or s at 0)) (length s - at) ≡ accepted → StandsAt L s at (get_or s at 0)
-    room_stands h p = stands_by h (L (get_or s at 0)) refl p
+    pub found_read : {c : Cmd} → at < length s → given c ≡ read_by (L (get_or s at 0)) (get_or s at 0) (drop (at + 1) s)
+        → given (command c (at + size c)) ≡ found_at L s at
+    found_read h r = read_in h (L (get_or s at 0)) refl r
 
-    stops_by : (k : ℕ) → at < length s → (l : Option ℕ) → L (get_or s at 0) ≡ l → room_for l (length s - at) ≡ refused k → found_at L s at ≡ given (stopped k at)
+    stops_by : (k : ℕ) → at < length s → (l : Option ℕ) → L (get_or s at 0) ≡ l → refused k ≡ room_for l (length s - at) → given (stopped k at) ≡ found_at L s at
     stops_by k h none e p =
-        let k_is : 1 ≡ k = cc in found_ends (omega arith) (unknown_here h e) ∙ ap (λ (m : ℕ). given (stopped m at)) k_is
+        let k_is : k ≡ 1 = cc in ap (λ (m : ℕ). given (stopped m at)) k_is ∙ sym (found_ends (omega arith) (unknown_here h e))
     stops_by k h (some n) e p = by (dec_lt n (length s - at))
       where
-        by : Dec (n < length s - at) → found_at L s at ≡ given (stopped k at)
+        by : Dec (n < length s - at) → given (stopped k at) ≡ found_at L s at
         by (yes g) = let q = simp (lt-ltb n (length s - at) g) at p in let no_way : ◌≡◌ {A = ℕ} 0 1 = cc in absurd (omega arith)
         by (no g) =
             let q = simp (le-ltb n (length s - at) (omega arith)) at p in
-            let k_is : 2 ≡ k = cc in
-            found_ends (omega arith) (short_here n h e (omega arith)) ∙ ap (λ (m : ℕ). given (stopped m at)) k_is
+            let k_is : k ≡ 2 = cc in
+            ap (λ (m : ℕ). given (stopped m at)) k_is ∙ sym (found_ends (omega arith) (short_here n h e (omega arith)))
 
-    pub room_stops : (k : ℕ) → at < length s → room_for (L (get_or s at 0)) (length s - at) ≡ refused k → found_at L s at ≡ given (stopped k at)
-    room_stops k h p = stops_by k h (L (get_or s at 0)) refl p
+    pub found_no_room : (k : ℕ) → at < length s → refused k ≡ room_for (L (get_or s at 0)) (length s - at) → given (stopped k at) ≡ found_at L s at
+    found_no_room k h p = stops_by k h (L (get_or s at 0)) refl p
 
   pub here : (at : ℕ) → Here at
   here at = here_by (dec_lt at (length s)) (dec_le at (length s))

@@ -7,7 +7,7 @@ mod lanes;
 pub mod step;
 pub mod whole;
 
-pub use chooser::{Port, choose, choose_verdict};
-pub use command::{DownlinkStep, UplinkStep, downlink_at, uplink_at};
+pub use chooser::{choose, choose_verdict};
+pub use command::{CommandStep, DownlinkStep, UplinkStep, downlink_at, uplink_at};
 pub use step::{Step, after_steps, payload_at, step_at};
 pub use whole::{Outcome, WalkEnd, walk, walk_from};

@@ -11,11 +11,11 @@ returns-then-stream-at-2 c = sym (step_past _ _ c.if-stream-at-2.true)
 pub returns-then-stream-at : goal.returns-then-stream-at
 returns-then-stream-at c = sym (step_end _ _ c.if-stream-at-2.false c.if-stream-at.true)
 
-pub returns-in-Unknown : goal.returns-in-Unknown
-returns-in-Unknown c = sym (step_unknown _ _ (omega arith) (sym c.payload_len-length.ensures ∙ ap told_length c.in-Unknown.is))
+pub returns-in-None : goal.returns-in-None
+returns-in-None c = sym (step_unknown _ _ (omega arith) (sym c.payload_len.ensures ∙ ap told_length c.in-None.is))
 
 pub returns-then-len-stream : goal.returns-then-len-stream
-returns-then-len-stream c = sym (step_command _ _ _ (omega arith) (sym c.payload_len-length.ensures ∙ ap told_length c.in-Known.is) (omega arith))
+returns-then-len-stream c = sym (step_command _ _ _ (omega arith) (sym c.payload_len.ensures ∙ ap told_length c.in-Some.is) (omega arith))
 
 pub returns-else-len-stream : goal.returns-else-len-stream
-returns-else-len-stream c = sym (step_short _ _ _ (omega arith) (sym c.payload_len-length.ensures ∙ ap told_length c.in-Known.is) (omega arith))
+returns-else-len-stream c = sym (step_short _ _ _ (omega arith) (sym c.payload_len.ensures ∙ ap told_length c.in-Some.is) (omega arith))

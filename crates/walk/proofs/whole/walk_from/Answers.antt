@@ -7,21 +7,21 @@ use Rattle.walk.proofs.Steps.{step_on, leads_behind, leads_on, leads_to_end}
 use Rattle.walk.proofs.whole.walk_from.Goals as goal
 
 pub overflow_add-count : goal.overflow_add-count
-overflow_add-count c = let m = step_on _ _ _ (sym c.step_at-found.ensures ∙ ap told_step c.in-Command.is) in omega arith
+overflow_add-count c = let m = step_on _ _ _ (sym c.step_at.ensures ∙ ap told_step c.in-Command.is) in omega arith
 
 pub loop-next-smaller : goal.loop-next-smaller
-loop-next-smaller c = let m = step_on _ _ _ (sym c.step_at-found.ensures ∙ ap told_step c.in-Command.is) in omega arith
+loop-next-smaller c = let m = step_on _ _ _ (sym c.step_at.ensures ∙ ap told_step c.in-Command.is) in omega arith
 
 pub loop-next-preserved : goal.loop-next-preserved
 loop-next-preserved c =
-    let e = sym c.step_at-found.ensures ∙ ap told_step c.in-Command.is in
+    let e = sym c.step_at.ensures ∙ ap told_step c.in-Command.is in
     leads_on _ _ c.loop-next.invariant (leads_behind _ _ _ e)
 
 pub returns-in-End : goal.returns-in-End
-returns-in-End c = leads_to_end _ _ _ c.loop-next.invariant (sym c.step_at-found.ensures ∙ ap told_step c.in-End.is) refl
+returns-in-End c = leads_to_end _ _ _ c.loop-next.invariant (sym c.step_at.ensures ∙ ap told_step c.in-End.is) refl
 
 pub returns-in-Stop : goal.returns-in-Stop
-returns-in-Stop c = leads_to_end _ _ _ c.loop-next.invariant (sym c.step_at-found.ensures ∙ ap told_step c.in-Stop.is) refl
+returns-in-Stop c = leads_to_end _ _ _ c.loop-next.invariant (sym c.step_at.ensures ∙ ap told_step c.in-Stop.is) refl
 
 pub returns-in-Refused : goal.returns-in-Refused
-returns-in-Refused c = leads_to_end _ _ _ c.loop-next.invariant (sym c.step_at-found.ensures ∙ ap told_step c.in-Refused.is) refl
+returns-in-Refused c = leads_to_end _ _ _ c.loop-next.invariant (sym c.step_at.ensures ∙ ap told_step c.in-Refused.is) refl
