@@ -1,27 +1,14 @@
 ghost use Rattle.std.proofs.Common.{rules};
-ghost use Rattle.std.specs.Prelude.{true, ◌≡◌};
+ghost use Rattle.std.specs.Prelude.{◌≡◌};
 ghost use Rattle.table.specs.Table.{named};
 ghost use Rattle.table.specs.Told.{told_verdict};
 ghost use Rattle.fields.specs.Places.{dev_status_ans_battery};
 ghost use Rattle.creators.specs.Image.{new_of, default_of, put_at};
-ghost use Rattle.creators.specs.Setters.{margin_at, is_margin, six_bits};
+ghost use Rattle.creators.specs.Setters.{margin_at};
 
 use crate::creator::Creator;
 use crate::kinds::{DownlinkKind, UplinkKind};
 use table::Refusal;
-
-// A margin as six bits: those below 0 from 32 on.
-#[tactic(auto, unfolding(crate::specs::Setters::is_margin, crate::specs::Setters::six_bits))]
-fn six_bits(margin: i8) -> u8
-    requires { is_margin margin ≡ true }
-    ensures { result ≡ six_bits margin }
-{
-    if margin < 0 {
-        (margin + 64) as u8
-    } else {
-        margin as u8
-    }
-}
 
 #[derive(Clone, Copy, Default)]
 pub struct DevStatusReqCreator {}
@@ -84,7 +71,7 @@ impl Creator<3> for DevStatusAnsCreator {
     }
 }
 
-#[tactic(auto, unfolding(crate::specs::Image::put_at, crate::specs::Setters::margin_at, crate::specs::Setters::is_margin))]
+#[tactic(auto, unfolding(crate::specs::Image::put_at))]
 impl DevStatusAnsCreator {
     // The battery level: 0 for an external source, 1 to 254 from the lowest to the highest, 255 where it could not be measured.
     pub fn set_battery(mut self, battery: u8) -> Self
@@ -95,13 +82,15 @@ impl DevStatusAnsCreator {
     }
 
     // The margin, -32 to 31. A refusal leaves the creator as it was (RULES: F2).
+    #[tactic(auto, using(crate::proofs::Margin::low_six), unfolding(crate::specs::Image::put_at, crate::specs::Setters::margin_at, crate::specs::Setters::is_margin, crate::specs::Setters::six_bits))]
     pub fn set_margin(&mut self, margin: i8) -> Result<(), Refusal>
         ensures { (told_verdict result, self.new.«data») ≡ margin_at self.old.«data» margin }
     {
         if margin < -32 || 31 < margin {
             return Err(Refusal::MarginOutOfRange);
         }
-        self.data[2] = six_bits(margin);
+        // its low six bits, in two's complement
+        self.data[2] = margin.cast_unsigned() % 64;
         Ok(())
     }
 }
