@@ -7,7 +7,7 @@ ghost use Rattle.std.specs.Counts.{IsPrefixLen};
 ghost use Rattle.listings.specs.Listing.{listing_of};
 ghost use Rattle.listing.specs.Program.{at_front, bad_input, printed_for};
 
-use listings::{ListingAnswer, write_listing};
+use listings::write_listing;
 use std::io;
 use std::io::{Read, Write};
 use table::{Direction, Rules};
@@ -42,11 +42,7 @@ fn put_listing(rules: Rules, stream: &[u8], out: &mut [u8]) -> usize
     requires { (length stream.now ≤ 1024) × (30645 ≤ length out.old) }
     ensures { (result, out.new) ≡ at_front (listing_of rules 0 stream.now) out.old }
 {
-    let answer = write_listing(rules, 0, stream, out);
-    match answer {
-        ListingAnswer::Total(total) => total,
-        ListingAnswer::Refused(_) => 0,
-    }
+    write_listing(rules, 0, stream, out).unwrap_or(0)
 }
 
 // Puts what is printed for an input at the front of out, and answers how many bytes it has.
@@ -55,26 +51,17 @@ fn answer(input: &[u8], out: &mut [u8]) -> usize
     requires { 30645 ≤ length out.old }
     ensures { (result, out.new) ≡ at_front (printed_for input.now) out.old }
 {
-    if input.len() == 0 {
+    let [letter, stream @ ..] = input else {
+        return put_bad(out);
+    };
+    if 1024 < stream.len() {
         return put_bad(out);
     }
-    if 1025 < input.len() {
-        return put_bad(out);
+    match *letter {
+        b'D' => put_listing(Rules::new(Direction::Down), stream, out),
+        b'U' => put_listing(Rules::new(Direction::Up), stream, out),
+        _ => put_bad(out),
     }
-    let letter = input[0];
-    if letter == b'D' {
-        let down = Rules {
-            direction: Direction::Down,
-        };
-        return put_listing(down, &input[1..], out);
-    }
-    if letter == b'U' {
-        let up = Rules {
-            direction: Direction::Up,
-        };
-        return put_listing(up, &input[1..], out);
-    }
-    put_bad(out)
 }
 
 fn print(to: &mut impl Write, input: &[u8], out: &mut [u8]) -> io::Result<()>

@@ -34,18 +34,18 @@ into_none t out h = simp (lt-leb (length t) (length out) h)
 
 module _ (t out : List ℕ) where
   -- a refusal says that there is no room
-  pub into_refused : {a : Answer ℕ} {n : ℕ} → a ≡ length_within (length out) t → a ≡ refused n → (refused n, out) ≡ into t out
+  pub into_refused : {n : ℕ} → refused n ≡ length_within (length out) t → (refused n, out) ≡ into t out
   unfolding length_within into
-  into_refused {a} {n} p q = by (leb (length t) (length out)) (sym q ∙ p)
+  into_refused {n} p = by (leb (length t) (length out)) p
     where
       by : (b : Bool) → refused n ≡ cond b (given (length t)) (refused 4)
           → ◌≡◌ {A = Answer ℕ × List ℕ} (refused n, out) (cond b (given (length t), over out 0 t) (refused 4, out))
       by true e = let no_way : ◌≡◌ {A = ℕ} 0 1 = cc in absurd (omega arith)
       by false e = ap (λ (x : Answer ℕ). (x, out)) e
 
-  pub fits_of : {a : Answer ℕ} {n : ℕ} → a ≡ length_within (length out) t → a ≡ given n → length t ≤ length out
+  pub fits_of : {n : ℕ} → given n ≡ length_within (length out) t → length t ≤ length out
   unfolding length_within
-  fits_of {a} {n} p q = by (leb (length t) (length out)) refl (sym q ∙ p)
+  fits_of {n} p = by (leb (length t) (length out)) refl p
     where
       by : (b : Bool) → leb (length t) (length out) ≡ b → given n ≡ cond b (given (length t)) (refused 4) → length t ≤ length out
       by true l e = leb-true (length t) (length out) l
