@@ -2,9 +2,9 @@
 use Prim.Native.Nat.{ℕ, ◌+◌, ◌-◌, ◌≤◌, ◌<◌}
 use mathlib.Core.List.{List, [], ◌∷◌, ◌++◌}
 use mathlib.Core.Option.{Option, none, some}
-use mathlib.Core.Path.{◌≡◌, refl, sym, ap, ◌∙◌, subst}
+use mathlib.Core.Path.{◌≡◌, refl, sym, ap, ap₂, ◌∙◌, subst}
 use native.Mathlib.Decide.{dec_le, dec_lt}
-use native.Mathlib.Nat.{zero-add, add-zero, add_assoc}
+use native.Mathlib.Nat.{add-zero, add_assoc}
 use native.Mathlib.Numerals.{add-one, one-add}
 use native.Mathlib.Omega.{arith}
 use lib.ListN.{length, get_or, take, drop, length-drop, take-append-drop, drop_of_length-le}
@@ -152,13 +152,11 @@ module _ (L : Rule) (s : List ℕ) where
         by : Dec (n ≤ length (drop (at + 1) s)) → given (command c (at + size c)) ≡ found_at L s at
         by (yes g) =
             let q = simp (le-leb n (length (drop (at + 1) s)) g) at r in
-            let body_is : record { cid = get_or s at 0; body = take n (drop (at + 1) s) } ≡ c = cc in
+            let c_is : c ≡ record { cid = get_or s at 0; body = take n (drop (at + 1) s) } = cc in
+            let len : length c.body ≡ n = ap (λ (d : Cmd). length d.body) c_is ∙ length-take-le n (drop (at + 1) s) g in
+            let behind : at + size c ≡ at + 1 + n = omega arith in
             let goes = command_here n h e (omega (arith, simp length-drop at g)) in
-            let len : length (take n (drop (at + 1) s)) ≡ n = length-take-le n (drop (at + 1) s) g in
-            let behind : at + (1 + length (take n (drop (at + 1) s))) ≡ at + 1 + n = omega arith in
-            ap (λ (d : Cmd). given (command d (at + size d))) (sym body_is)
-            ∙ ap (λ (k : ℕ). given (command (record { cid = get_or s at 0; body = take n (drop (at + 1) s) }) k)) behind
-            ∙ sym (found_goes goes)
+            ap₂ (λ (d : Cmd) (k : ℕ). given (command d k)) c_is behind ∙ sym (found_goes goes)
         by (no g) =
             let short : length (drop (at + 1) s) < n = omega arith in
             let q = simp (lt-leb n (length (drop (at + 1) s)) short) at r in
@@ -234,12 +232,6 @@ module _ (L : Rule) (s : List ℕ) where
           ∙ sym (ap (λ (a : Answer (Found Cmd)). tally_after L s at (in_numbers a)) (found_goes g))
 
   -- ---- the walk by steps
-
-  pub leads_nowhere : (from : ℕ) → Leads L s from 0 from
-  leads_nowhere from = record {
-    same = ap (λ (n : ℕ). ((tally_from L s from).0, n)) (sym (zero-add (tally_from L s from).1));
-    apart = omega arith;
-  }
 
   pub leads_behind : (at : ℕ) {h : Heading} {next : ℕ} → step_at L s at ≡ given (command h next) → Leads L s at 1 next
   leads_behind at e = let m = step_on at e in record { same = tally_step at ∙ ap (tally_after L s at) e; apart = omega arith }

@@ -8,7 +8,7 @@ use crate::step::{Step, step_at};
 use table::Rules;
 
 // How far a walk has come: the offset where it stands, and the number of commands handed out.
-#[derive(Clone, Copy)]
+#[derive(Clone, Copy, Default)]
 pub(crate) struct Way {
     pub(crate) at: usize,
     pub(crate) count: usize,
@@ -38,6 +38,7 @@ const LONGEST: usize = 6;
 
 impl Reading<'_> {
     // The offset behind the command at an offset, if one stands there.
+    #[tactic(auto, using(crate::proofs::Steps::step_on, crate::proofs::Steps::leads_behind))]
     fn behind(self, at: usize) -> Option<usize>
         ensures { Comes (length_of self.entry.rules) self.entry.stream.now at result }
     {
@@ -71,6 +72,7 @@ impl Reading<'_> {
     }
 
     // The same as `behind`, where the stream has room for any command, and so without a test of the room.
+    #[tactic(auto, using(crate::proofs::Onward::any))]
     fn behind_any(self, at: usize) -> Option<usize>
         requires { at + 6 ≤ length self.stream.now }
         ensures { Comes (length_of self.entry.rules) self.entry.stream.now at result }
@@ -131,7 +133,7 @@ pub(crate) fn in_lanes(rules: Rules, stream: &[u8]) -> Way
     ensures { Leads (length_of rules) stream.now 0 result.count result.at }
 {
     if stream.len() < LONG {
-        return Way { at: 0, count: 0 };
+        return Way::default();
     }
     let reading = Reading { rules, stream };
     let near = stream.len() / 3;
@@ -139,7 +141,7 @@ pub(crate) fn in_lanes(rules: Rules, stream: &[u8]) -> Way
     let third_place = reading.place_near(near + near);
     let last = stream.len() - LONGEST;
     if last < second_place || last < third_place {
-        return Way { at: 0, count: 0 };
+        return Way::default();
     }
     let lanes = reading.together(second_place, third_place, last);
     let first = reading.alone(lanes.first, second_place);

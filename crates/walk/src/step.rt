@@ -20,6 +20,7 @@ pub enum Step {
     Refused(Refusal),
 }
 
+#[tactic(auto, using(crate::proofs::Steps::step_past, crate::proofs::Steps::step_end, crate::proofs::Steps::step_unknown))]
 pub fn step_at(rules: Rules, stream: &[u8], at: usize) -> Step
     ensures { told_step result ≡ step_at (length_of rules) stream.now at }
 {
@@ -55,6 +56,7 @@ pub fn step_at(rules: Rules, stream: &[u8], at: usize) -> Step
 
 // The payload of the command at an offset: the part of the stream that begins behind its CID. Where there is no command, the front of the
 // stream, with no bytes.
+#[tactic(auto, using(crate::proofs::Steps::step_on, crate::proofs::Parts::part_is))]
 pub fn payload_at(rules: Rules, stream: &[u8], at: usize) -> &[u8]
     ensures { shown result ≡ payload_part stream.entry at (step_at (length_of rules) stream.now at) }
 {
@@ -65,6 +67,7 @@ pub fn payload_at(rules: Rules, stream: &[u8], at: usize) -> &[u8]
 }
 
 // The offset after n steps, the first of them at an offset. Where a step finds no command, those behind it stay there.
+#[tactic(auto, using(crate::proofs::Stepping::none_made, crate::proofs::Stepping::step_made))]
 pub fn after_steps(rules: Rules, stream: &[u8], from: usize, n: usize) -> usize
     ensures { result ≡ after_steps (length_of rules) stream.now from n }
 {
