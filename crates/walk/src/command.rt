@@ -56,7 +56,7 @@ trait Sent: Copy {
         ensures { result ≡ length (cmd self).body };
 }
 
-// The same of a payload of so many bytes. Of those left, one is the CID.
+// Whether a payload of so many bytes is all there. Of the bytes left, one is the CID.
 fn room_for(len: usize, left: usize) -> Result<(), Refusal>
     ensures { told_verdict result ≡ room_for (some len) left }
 {
