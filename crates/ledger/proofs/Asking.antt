@@ -1,12 +1,12 @@
 -- What is asked of a ledger: what is answered of a row is what is shown of the setting, for every setting and every memory; a channel that is not
 -- held has no parent; and a ledger before its first line holds nothing. Assumes nothing.
 use Prim.Native.Nat.{ℕ, zero, suc, ◌+◌, ◌*◌, ◌<◌}
-use mathlib.Core.Bool.{true, cond, ◌&&◌}
+use mathlib.Core.Bool.{cond, ◌&&◌}
 use mathlib.Core.List.{List, []}
-use mathlib.Core.Option.{none}
+use Rattle.std.specs.Prelude.{None, Some}
 use mathlib.Core.Path.{◌≡◌, refl, ap₂, fun_ext}
 use native.Mathlib.Omega.{arith}
-use borrow.Author.Tests.{lt-ltb, le-ltb}
+use borrow.Author.Tests.{lt-ltb, le-ltb, ne_eqb}
 use lib.Dec.{eqb, ltb}
 use lib.ListN.{get_or, replicate}
 use Rattle.bits.specs.Bits.{bit_of, bit_on, field}
@@ -23,22 +23,20 @@ use Rattle.ledger.specs.declared.settings.Row.{Row}
 
 -- what is shown of n requests, of which two are kept
 by_count : (σ : Setting) (f : ℕ → Request) (n : ℕ)
-    → cond (ltb 0 n)
-    (record {
-      known = true;
+    → cond (eqb n 0) None
+    (Some (record {
       line = (f 0).at.line;
       frame = (f 0).at.frame;
       offset = (f 0).at.offset;
       value = says σ (f 0).body;
       unchanged = ltb 1 n && eqb (says σ (f 0).body) (says σ (f 1).body);
-    })
-    (in_hand none)
+    }))
     ≡ in_hand (shown σ (tabulate (at_most 2 n) f))
 unfolding tabulate
 by_count σ f zero = refl
 by_count σ f (suc zero) = refl
 by_count σ f (suc (suc n)) =
-    simp (lt-ltb 0 (suc (suc n)) (omega arith), lt-ltb 1 (suc (suc n)) (omega arith), le-ltb (suc (suc n)) 2 (omega arith))
+    simp (ne_eqb (suc (suc n)) 0 (λ e. omega arith), lt-ltb 1 (suc (suc n)) (omega arith), le-ltb (suc (suc n)) 2 (omega arith))
 
 -- what is answered of a setting's row, by what its payloads say, is what is shown of the setting
 pub asked_is : (w : List ℕ) (σ : Setting)

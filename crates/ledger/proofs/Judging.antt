@@ -6,8 +6,9 @@ use mathlib.Core.List.{List, [], ◌∷◌, ◌++◌, head?, tail}
 use mathlib.Core.Option.{Option, none, some}
 use mathlib.Core.Path.{◌≡◌, refl, sym, ap, ◌∙◌, subst}
 use native.Mathlib.Decide.{dec_lt}
+use native.Mathlib.Nat.{sub-zero}
 use native.Mathlib.Omega.{arith}
-use borrow.Author.Tests.{eqb-true, eqb-false, eq-eqb, ne_eqb, lt-ltb, le-ltb}
+use borrow.Author.Tests.{eqb-true, eqb-false, ne_eqb, lt-ltb, le-ltb}
 use lib.Dec.{eqb, ltb}
 use lib.ListN.{
   length,
@@ -28,17 +29,17 @@ use Rattle.bits.specs.Bits.{field, bit_of}
 use Rattle.bits.specs.Memory.{over}
 use Rattle.fields.proofs.Lists.{length_tabulate, get_d_tabulate}
 use Rattle.payloads.specs.Commands.{in_five}
-use Rattle.table.specs.Answers.{Answer, given, refused}
+use Rattle.table.specs.Answers.{Answer, given, refused, accepted}
 use Rattle.table.specs.Table.{length_of}
 use Rattle.table.specs.declared.rules.Rules.{Rules}
-use Rattle.walk.specs.Step.{ended, command, stopped as stopped_at, heading, step_at}
+use Rattle.walk.specs.Step.{ended as ended_step, command, stopped as stopped_at, heading, step_at}
 use Rattle.walk.specs.Walk.{placed}
 use Rattle.ledger.specs.Book.{Book, in_four, noted, put, opening, takes_effect, decided, answering, asked, step, onward, steps}
 use Rattle.ledger.specs.Events.{Request, Reply, Event, request, reply, is_request, agrees_with, place, event_of}
 use Rattle.ledger.specs.Memory.{at_most, request_at, pending_in}
 use Rattle.ledger.specs.Parents.{Note, beyond, stray, stopped, brought_by}
 use Rattle.ledger.specs.Settings.{is_beyond}
-use Rattle.ledger.specs.Working.{reply_of, book_in, fault_in, events_from, Judges}
+use Rattle.ledger.specs.Working.{reply_of, book_in, ended, events_from, taking, left_behind, Judges}
 use Rattle.ledger.proofs.Walking.{Stands, stands, events_command, events_end, events_stop, never_refused}
 
 -- ---- lists
@@ -108,35 +109,28 @@ module _ (p : List ℕ) (c k : ℕ) where
       by true = rw q
       by false = refl
 
--- ---- what a command needs, and what comes of it
+-- ---- what a command takes of the room, and what comes of it
 
-abbrev pub need_for : (pending : List ℕ) → (asks : Bool) → (before cid : ℕ) → (yea : Bool) → ℕ
-need_for p q k c yea =
-    cond q (cond (ltb (length (pending_in p c) + k) 8) 0 17) (4 * length (brought_by (reply_of c yea 0 0 0) (head? (drop k (pending_in p c)))))
+pub taking_none : (left : ℕ) → taking 0 left ≡ given left
+taking_none left = rw (le-ltb left 0 (omega arith)) (ap given (sub-zero left))
 
-module _ (p : List ℕ) {asks : Bool} (k c : ℕ) (yea : Bool) where
-  pub need_none : asks ≡ true → k < 8 - length (pending_in p c) → 0 ≡ need_for p asks k c yea
-  need_none e h = rw (e, lt-ltb (length (pending_in p c) + k) 8 (omega arith))
+module _ (p : List ℕ) {asks : Bool} (k c : ℕ) (yea : Bool) (left : ℕ) where
+  pub behind_request : asks ≡ true → k < 8 - length (pending_in p c) → given left ≡ left_behind p asks k c yea left
+  behind_request e h = rw (e, lt-ltb (length (pending_in p c) + k) 8 (omega arith))
 
-  pub need_full : asks ≡ true → 8 - length (pending_in p c) ≤ k → 17 ≡ need_for p asks k c yea
-  need_full e h = rw (e, le-ltb (length (pending_in p c) + k) 8 (omega arith))
+  pub behind_full : asks ≡ true → 8 - length (pending_in p c) ≤ k → refused 17 ≡ left_behind p asks k c yea left
+  behind_full e h = rw (e, le-ltb (length (pending_in p c) + k) 8 (omega arith))
 
   -- of an answer, where t tells whether an entry is due
   module _ (t : Bool) (e : asks ≡ false) (q : bit_of t ≡ brought p c k yea) where
-    need_by : 4 * bit_of t ≡ need_for p asks k c yea
-    need_by = rw e (ap (λ (n : ℕ). 4 * n) q)
+    behind_by : taking (bit_of t) left ≡ left_behind p asks k c yea left
+    behind_by = rw e (ap (λ (n : ℕ). taking n left) q)
 
-    pub need_entry : t ≡ true → 4 ≡ need_for p asks k c yea
-    need_entry d = ap (λ (b : Bool). 4 * bit_of b) (sym d) ∙ need_by
+    pub behind_entry : t ≡ true → taking 1 left ≡ left_behind p asks k c yea left
+    behind_entry d = ap (λ (b : Bool). taking (bit_of b) left) (sym d) ∙ behind_by
 
-    pub need_clear : t ≡ false → 0 ≡ need_for p asks k c yea
-    need_clear d = ap (λ (b : Bool). 4 * bit_of b) (sym d) ∙ need_by
-
-abbrev pub fault_of : (need left : ℕ) → ℕ
-fault_of need left = cond (eqb need 4) (cond (eqb left 0) 4 0) need
-
-abbrev pub left_after : (need left : ℕ) → ℕ
-left_after need left = cond (eqb need 4) (left - 1) left
+    pub behind_clear : t ≡ false → given left ≡ left_behind p asks k c yea left
+    behind_clear d = sym (taking_none left) ∙ ap (λ (b : Bool). taking (bit_of b) left) (sym d) ∙ behind_by
 
 abbrev left_in : Book → ℕ
 left_in b = length b.list / 4 - b.listed
@@ -158,19 +152,22 @@ module _ (asks : ℕ → Bool) (p : List ℕ) where
     kept : Kept book.pending seen
     room : left ≡ left_in book
 
-  -- a command with this need is refused, or hands a book on
-  record Outcome (need : ℕ) (a : Answer Book) (seen : List ℕ) (left : ℕ) : Type 0 where
-    goes : fault_of need left ≡ 0 → On a seen (left_after need left)
-    stops : (fault_of need left ≡ 0 → ⊥) → a ≡ refused (fault_of need left)
+  -- a command hands a book on that has this room left, or is refused so
+  record Outcome (x : Answer ℕ) (a : Answer Book) (seen : List ℕ) : Type 0 where
+    goes : (left : ℕ) → x ≡ given left → On a seen left
+    stops : (k : ℕ) → x ≡ refused k → a ≡ refused k
 
-  outcome_none : {b : Book} {seen : List ℕ} {left : ℕ} → Kept b.pending seen → left ≡ left_in b → Outcome 0 (given b) seen left
-  outcome_none {b} k r = record { goes = λ e. record { book = b; is = refl; kept = k; room = r }; stops = λ e. absurd (e refl) }
+  outcome_none : {b : Book} {seen : List ℕ} (left : ℕ) → Kept b.pending seen → left ≡ left_in b → Outcome (given left) (given b) seen
+  outcome_none {b} left k r = record {
+    goes = λ m e. let same : left ≡ m = cc in record { book = b; is = refl; kept = k; room = sym same ∙ r };
+    stops = λ m e. cc;
+  }
 
-  outcome_full : {seen : List ℕ} {left : ℕ} → Outcome 17 (refused 17) seen left
-  outcome_full = record { goes = λ e. absurd (omega arith); stops = λ e. refl }
+  outcome_full : {seen : List ℕ} → Outcome (refused 17) (refused 17) seen
+  outcome_full = record { goes = λ m e. cc; stops = λ m e. let same : 17 ≡ m = cc in ap refused same }
 
-  outcome_due : (n : Note) (b : Book) {seen : List ℕ} {left : ℕ} → Kept b.pending seen → left ≡ left_in b → Outcome 4 (noted n b) seen left
-  outcome_due n b {seen} {left} k r = by (dec_lt 0 left)
+  outcome_due : (n : Note) (b : Book) {seen : List ℕ} (left : ℕ) → Kept b.pending seen → left ≡ left_in b → Outcome (taking 1 left) (noted n b) seen
+  outcome_due n b {seen} left k r = by (dec_lt 0 left)
     where
       written : List ℕ
       written = over b.list (4 * b.listed) (in_four n)
@@ -178,30 +175,25 @@ module _ (asks : ℕ → Bool) (p : List ℕ) where
       with_note : Book
       with_note = record { lines = b.lines; listed = b.listed + 1; pending = b.pending; held = b.held; list = written }
 
-      by : Dec (0 < left) → Outcome 4 (noted n b) seen left
+      by : Dec (0 < left) → Outcome (taking 1 left) (noted n b) seen
       by (no e) =
-          let f : fault_of 4 left ≡ 4 = rw (eq-eqb left 0 (omega arith)) in
+          let f : taking 1 left ≡ refused 4 = rw (lt-ltb left 1 (omega arith)) in
           let full : ltb b.listed (length b.list / 4) ≡ false = le-ltb b.listed (length b.list / 4) (omega arith) in
-          record { goes = λ z. absurd (omega arith); stops = λ z. rw (full, f) }
+          record { goes = λ m z. cc; stops = λ m z. let same : 4 ≡ m = cc in rw full (ap refused same) }
       by (yes e) =
-          let f : fault_of 4 left ≡ 0 = rw (ne_eqb left 0 (λ z. omega arith)) in
+          let f : taking 1 left ≡ given (left - 1) = rw (le-ltb left 1 (omega arith)) in
           let there : ltb b.listed (length b.list / 4) ≡ true = lt-ltb b.listed (length b.list / 4) (omega arith) in
           let same : length written ≡ length b.list = over_length b.list (4 * b.listed) (in_four n) (omega arith) in
           record {
-            goes = λ z. record { book = with_note; is = rw there; kept = k; room = omega (arith, ap (λ (m : ℕ). m / 4) same) };
-            stops = λ z. absurd (z f);
+            goes = λ m z. let one_less : left - 1 ≡ m = cc in
+                record { book = with_note; is = rw there; kept = k; room = omega (arith, ap (λ (i : ℕ). i / 4) same) };
+            stops = λ m z. cc;
           }
 
   -- of the last event
-  last_fault : {need : ℕ} {a : Answer Book} {seen : List ℕ} {left : ℕ} → Outcome need a seen left
-      → fault_in (onward a (λ b. given b)) ≡ fault_of need left
-  last_fault {need} {a} {seen} {left} o = by (dec_lt 0 (fault_of need left))
-    where
-      by : Dec (0 < fault_of need left) → fault_in (onward a (λ b. given b)) ≡ fault_of need left
-      by (yes h) = ap (λ (x : Answer Book). fault_in (onward x (λ b. given b))) (o.stops (λ e. omega arith))
-      by (no h) =
-          let z : fault_of need left ≡ 0 = omega arith in
-          ap (λ (x : Answer Book). fault_in (onward x (λ b. given b))) (o.goes z).is ∙ sym z
+  last_ended : (x : Answer ℕ) {a : Answer Book} {seen : List ℕ} → Outcome x a seen → ended x ≡ ended (onward a (λ b. given b))
+  last_ended (given left) o = sym (ap (λ (y : Answer Book). ended (onward y (λ b. given b))) (o.goes left refl).is)
+  last_ended (refused k) o = sym (ap (λ (y : Answer Book). ended (onward y (λ b. given b))) (o.stops k refl))
 
   -- one request more, or one answer
   kept_request : {pending : ℕ → List Request} {seen : List ℕ} (r : Request) → asks r.cid ≡ true → r.cid < length seen → Kept pending seen
@@ -250,44 +242,44 @@ module _ (asks : ℕ → Bool) (p : List ℕ) where
       same c true q = ap pending (sym (eqb-true d c q)) ∙ none_tail (pending d) e
       same c false q = refl
 
-  module _ (b : Book) {seen : List ℕ} {left : ℕ} (k : Kept b.pending seen) (r : left ≡ left_in b) where
+  module _ (b : Book) {seen : List ℕ} (left : ℕ) (k : Kept b.pending seen) (r : left ≡ left_in b) where
     request_outcome : (q : Request) → asks q.cid ≡ true → q.cid < length seen → (yea : Bool)
-        → Outcome (need_for p true (get_or seen q.cid 0) q.cid yea) (asked q b) (more seen q.cid) left
+        → Outcome (left_behind p true (get_or seen q.cid 0) q.cid yea left) (asked q b) (more seen q.cid)
     request_outcome q w h yea =
-        subst (λ (m : ℕ). Outcome (cond (ltb m 8) 0 17) (asked q b) (more seen q.cid) left) (k.asked_more q.cid w)
+        subst (λ (m : ℕ). Outcome (cond (ltb m 8) (given left) (refused 17)) (asked q b) (more seen q.cid)) (k.asked_more q.cid w)
         (by (ltb (length (b.pending q.cid)) 8))
       where
-        by : (t : Bool) → Outcome (cond t 0 17) (cond t (given (opening q.cid (b.pending q.cid ++ (q ∷ [])) b)) (refused 17))
-            (more seen q.cid) left
-        by true = outcome_none (kept_request q w h k) r
+        by : (t : Bool) → Outcome (cond t (given left) (refused 17)) (cond t (given (opening q.cid (b.pending q.cid ++ (q ∷ [])) b)) (refused 17))
+            (more seen q.cid)
+        by true = outcome_none left (kept_request q w h k) r
         by false = outcome_full
 
     answer_outcome : (a : Reply) → asks a.cid ≡ false → a.cid < length seen
-        → Outcome (need_for p false (get_or seen a.cid 0) a.cid a.agrees) (answering a (head? (b.pending a.cid)) b)
-        (more seen a.cid) left
+        → Outcome (left_behind p false (get_or seen a.cid 0) a.cid a.agrees left) (answering a (head? (b.pending a.cid)) b)
+        (more seen a.cid)
     answer_outcome a w h =
-        subst (λ (l : List Request). Outcome (due (head? l)) (answering a (head? (b.pending a.cid)) b) (more seen a.cid) left)
+        subst (λ (l : List Request). Outcome (due (head? l)) (answering a (head? (b.pending a.cid)) b) (more seen a.cid))
         (k.answered a.cid w)
         (by (head? (b.pending a.cid)) refl)
       where
-        due : Option Request → ℕ
-        due o = 4 * length (brought_by (reply_of a.cid a.agrees 0 0 0) o)
+        due : Option Request → Answer ℕ
+        due o = taking (length (brought_by (reply_of a.cid a.agrees 0 0 0) o)) left
 
         after : Book
         after = opening a.cid (tail (b.pending a.cid)) b
 
-        beyond_by : (q : Request) (t : Bool) → Outcome (4 * length (cond t (beyond q.at ∷ []) []))
-            (cond t (noted (beyond q.at) after) (given (takes_effect q after))) (more seen a.cid) left
-        beyond_by q true = outcome_due (beyond q.at) after (kept_answer a.cid w h k) r
-        beyond_by q false = outcome_none (kept_answer a.cid w h k) r
+        beyond_by : (q : Request) (t : Bool) → Outcome (taking (length (cond t (beyond q.at ∷ []) [])) left)
+            (cond t (noted (beyond q.at) after) (given (takes_effect q after))) (more seen a.cid)
+        beyond_by q true = outcome_due (beyond q.at) after left (kept_answer a.cid w h k) r
+        beyond_by q false = rw taking_none (outcome_none left (kept_answer a.cid w h k) r)
 
-        decided_by : (q : Request) (y : Bool) → Outcome (4 * length (cond (y && is_beyond q) (beyond q.at ∷ []) [])) (decided y q after)
-            (more seen a.cid) left
+        decided_by : (q : Request) (y : Bool) → Outcome (taking (length (cond (y && is_beyond q) (beyond q.at ∷ []) [])) left) (decided y q after)
+            (more seen a.cid)
         decided_by q true = beyond_by q (is_beyond q)
-        decided_by q false = outcome_none (kept_answer a.cid w h k) r
+        decided_by q false = rw taking_none (outcome_none left (kept_answer a.cid w h k) r)
 
-        by : (o : Option Request) → head? (b.pending a.cid) ≡ o → Outcome (due o) (answering a o b) (more seen a.cid) left
-        by none e = outcome_due (stray a.at) b (kept_stray a.cid w h e k) r
+        by : (o : Option Request) → head? (b.pending a.cid) ≡ o → Outcome (due o) (answering a o b) (more seen a.cid)
+        by none e = outcome_due (stray a.at) b left (kept_stray a.cid w h e k) r
         by (some q) e = decided_by q a.agrees
 
 -- ---- along a line
@@ -306,7 +298,7 @@ module _ (rules : Rules) (s p : List ℕ) (listed room : ℕ) where
   -- the events from an offset on, in this book, are refused as all events are
   record Stage (n f lines : ℕ) (h l : List ℕ) (at : ℕ) (seen : List ℕ) (left : ℕ) : Type 0 where
     book : Book
-    same : fault_in (steps (events_from rules n f s 0) (book_in lines listed p h l)) ≡ fault_in (steps (events_from rules n f s at) book)
+    same : ended (steps (events_from rules n f s 0) (book_in lines listed p h l)) ≡ ended (steps (events_from rules n f s at) book)
     kept : Kept (is_request rules) p book.pending seen
     left_is : left ≡ left_in book
 
@@ -334,34 +326,34 @@ module _ (rules : Rules) (s p : List ℕ) (listed room : ℕ) where
   }
 
   module _ {at : ℕ} {seen : List ℕ} {left : ℕ} (j : Judged at seen left) where
-    pub judged_end : step_at (length_of rules) s at ≡ given ended → Judges rules s p listed room 0
+    pub judged_end : step_at (length_of rules) s at ≡ given ended_step → Judges rules s p listed room accepted
     unfolding steps
     judged_end e n f lines h l r =
         let t = j.stage n f lines h l r in
-        sym (t.same ∙ ap (λ (es : List Event). fault_in (steps es t.book)) (events_end rules n f s at j.within e))
+        sym (t.same ∙ ap (λ (es : List Event). ended (steps es t.book)) (events_end rules n f s at j.within e))
 
-    pub judged_never : {k : ℕ} → step_at (length_of rules) s at ≡ refused k → Judges rules s p listed room 0
+    pub judged_never : {k : ℕ} → step_at (length_of rules) s at ≡ refused k → Judges rules s p listed room accepted
     judged_never e = absurd (never_refused rules s at j.within e)
 
-    pub judged_stop : {k o fault : ℕ} → step_at (length_of rules) s at ≡ given (stopped_at k o) → fault ≡ fault_of 4 left
-        → Judges rules s p listed room fault
+    pub judged_stop : {k o : ℕ} {x : Answer ℕ} → step_at (length_of rules) s at ≡ given (stopped_at k o) → x ≡ taking 1 left
+        → Judges rules s p listed room (ended x)
     unfolding steps
-    judged_stop e y n f lines h l r =
+    judged_stop {x = x} e y n f lines h l r =
         let t = j.stage n f lines h l r in
-        let o = outcome_due (is_request rules) p (stopped (place n f at)) t.book t.kept t.left_is in
-        y
-        ∙ sym (t.same ∙ ap (λ (es : List Event). fault_in (steps es t.book)) (events_stop rules n f s at j.within e)
-        ∙ last_fault (is_request rules) p o)
+        let o = outcome_due (is_request rules) p (stopped (place n f at)) t.book left t.kept t.left_is in
+        ap ended y
+        ∙ last_ended (is_request rules) p (taking 1 left) o
+        ∙ sym (t.same ∙ ap (λ (es : List Event). ended (steps es t.book)) (events_stop rules n f s at j.within e))
 
     module _ {cid len next : ℕ} (e : step_at (length_of rules) s at ≡ given (command (heading cid len) next)) where
       abbrev payload : List ℕ
       payload = take len (drop (at + 1) s)
 
-      abbrev need : ℕ
-      need = need_for p (is_request rules cid) (get_or seen cid 0) cid (agrees_with cid payload)
+      abbrev behind : Answer ℕ
+      behind = left_behind p (is_request rules cid) (get_or seen cid 0) cid (agrees_with cid payload) left
 
       outcome : (n f : ℕ) (b : Book) → Kept (is_request rules) p b.pending seen → left ≡ left_in b
-          → Outcome (is_request rules) p need (step (event_of rules n f (placed at cid payload)) b) (more seen cid) left
+          → Outcome (is_request rules) p behind (step (event_of rules n f (placed at cid payload)) b) (more seen cid)
       outcome n f b k r = by (is_request rules cid) refl
         where
           low : cid < length seen
@@ -374,32 +366,32 @@ module _ (rules : Rules) (s p : List ℕ) (listed room : ℕ) where
           replying = record { at = place n f at; cid = cid; agrees = agrees_with cid payload }
 
           by : (t : Bool) → is_request rules cid ≡ t
-              → Outcome (is_request rules) p (need_for p t (get_or seen cid 0) cid (agrees_with cid payload))
-              (step (cond t (request asking) (reply replying)) b) (more seen cid) left
-          by true q = request_outcome (is_request rules) p b k r asking q low (agrees_with cid payload)
-          by false q = answer_outcome (is_request rules) p b k r replying q low
+              → Outcome (is_request rules) p (left_behind p t (get_or seen cid 0) cid (agrees_with cid payload) left)
+              (step (cond t (request asking) (reply replying)) b) (more seen cid)
+          by true q = request_outcome (is_request rules) p b left k r asking q low (agrees_with cid payload)
+          by false q = answer_outcome (is_request rules) p b left k r replying q low
 
-      fault_here : (fault_of need left ≡ 0 → ⊥) → Judges rules s p listed room (fault_of need left)
+      pub judged_fault : {k : ℕ} → refused k ≡ behind → Judges rules s p listed room (refused k)
       unfolding steps
-      fault_here z n f lines h l r =
+      judged_fault {k} z n f lines h l r =
           let t = j.stage n f lines h l r in
           let o = outcome n f t.book t.kept t.left_is in
-          sym (t.same ∙ ap (λ (es : List Event). fault_in (steps es t.book)) (events_command rules n f s at e)
-          ∙ ap (λ (x : Answer Book). fault_in (onward x (steps (events_from rules n f s next)))) (o.stops z))
+          sym (t.same ∙ ap (λ (es : List Event). ended (steps es t.book)) (events_command rules n f s at e)
+          ∙ ap (λ (x : Answer Book). ended (onward x (steps (events_from rules n f s next)))) (o.stops k (sym z)))
 
-      next_here : fault_of need left ≡ 0 → Judged next (more seen cid) (left_after need left)
+      pub judged_next : {after : ℕ} → given after ≡ behind → Judged next (more seen cid) after
       unfolding steps
-      next_here z = record {
+      judged_next {after} z = record {
         within = (stands rules s e).fits;
         sixteen = length-set seen cid (get_or seen cid 0 + 1) ∙ j.sixteen;
         few = λ c. few_by c (dec_lt c cid) (dec_lt cid c);
         stage = λ n f lines h l r.
             let t = j.stage n f lines h l r in
-            let o = (outcome n f t.book t.kept t.left_is).goes z in
+            let o = (outcome n f t.book t.kept t.left_is).goes after (sym z) in
             record {
               book = o.book;
-              same = t.same ∙ ap (λ (es : List Event). fault_in (steps es t.book)) (events_command rules n f s at e)
-                  ∙ ap (λ (x : Answer Book). fault_in (onward x (steps (events_from rules n f s next)))) o.is;
+              same = t.same ∙ ap (λ (es : List Event). ended (steps es t.book)) (events_command rules n f s at e)
+                  ∙ ap (λ (x : Answer Book). ended (onward x (steps (events_from rules n f s next)))) o.is;
               kept = o.kept;
               left_is = o.room;
             };
@@ -415,15 +407,3 @@ module _ (rules : Rules) (s p : List ℕ) (listed room : ℕ) where
               let c_is : c ≡ cid = omega arith in
               let low : cid < length seen = omega (arith, g.low, j.sixteen) in
               rw (c_is, get_or-set_same seen cid (get_or seen cid 0 + 1) 0 low) (omega (arith, j.few cid, g.behind))
-
-      -- the same for numbers in hand
-      module _ {m fault : ℕ} (x : m ≡ need) (y : fault ≡ fault_of m left) where
-        fault_need : fault ≡ fault_of need left
-        fault_need = y ∙ ap (λ (k : ℕ). fault_of k left) x
-
-        pub judged_fault : (fault ≡ 0 → ⊥) → Judges rules s p listed room fault
-        judged_fault z = subst (Judges rules s p listed room) (sym fault_need) (fault_here (λ e. z (fault_need ∙ e)))
-
-        pub judged_next : {after : ℕ} → fault ≡ 0 → after ≡ left_after m left → Judged next (more seen cid) after
-        judged_next z w =
-            subst (Judged next (more seen cid)) (sym (w ∙ ap (λ (k : ℕ). left_after k left) x)) (next_here (sym fault_need ∙ z))

@@ -1,6 +1,5 @@
 -- Not for the auditor: only private functions cite this. A row of a ledger's numbers, and what is answered of it.
-use Rattle.std.specs.Prelude.{ℕ, ◌+◌, ◌*◌, true, cond, ◌&&◌, List, eqb, ltb, get_or}
-use Rattle.std.proofs.Math.Option.{none}
+use Rattle.std.specs.Prelude.{ℕ, ◌+◌, ◌*◌, cond, ◌&&◌, List, eqb, ltb, get_or, Option, None, Some}
 use Rattle.ledger.specs.Settings.{
   Setting,
   data_rate,
@@ -19,7 +18,7 @@ use Rattle.ledger.specs.Settings.{
   channel_rates,
   downlink_frequency,
 }
-use Rattle.ledger.specs.declared.settings.Held.{Held}
+use Rattle.ledger.specs.declared.settings.Parent.{Parent}
 use Rattle.ledger.specs.declared.settings.Row.{Row}
 use Rattle.ledger.specs.declared.settings.Which.{Which}
 use Rattle.ledger.specs.declared.settings.Which.TheVariants.{
@@ -39,7 +38,6 @@ use Rattle.ledger.specs.declared.settings.Which.TheVariants.{
   ChannelRates,
   DownlinkFrequency,
 }
-use Rattle.ledger.specs.Asked.{in_hand}
 
 -- the setting that is asked for
 abbrev pub setting_of : Which → Setting
@@ -71,8 +69,7 @@ row_at w p = record {
 }
 
 -- what is answered of a row whose last parent says x, and the one before it y
-abbrev pub answered : Row → (x y : ℕ) → Held
+abbrev pub answered : Row → (x y : ℕ) → Option Parent
 answered r x y =
-    cond (ltb 0 r.count)
-    (record { known = true; line = r.line; frame = r.frame; offset = r.offset; value = x; unchanged = ltb 1 r.count && eqb x y })
-    (in_hand none)
+    cond (eqb r.count 0) None
+    (Some (record { line = r.line; frame = r.frame; offset = r.offset; value = x; unchanged = ltb 1 r.count && eqb x y }))

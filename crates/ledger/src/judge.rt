@@ -1,17 +1,18 @@
 // A line is judged before anything of it is written. In a line every command of a CID is a request, or every one an answer, so what its commands
 // will find is known from the open requests before it and from how many commands of each CID went before in the line.
-ghost use Rattle.std.specs.Prelude.{◌+◌, ◌-◌, ◌*◌, ◌%◌, ◌<◌, ◌≤◌, cond, ◌≡◌, eqb, ltb, length, take, drop};
+ghost use Rattle.std.specs.Prelude.{◌+◌, ◌-◌, ◌*◌, ◌%◌, ◌<◌, ◌≤◌, ◌≡◌, ltb, length, take, drop};
 ghost use mathlib.Core.List.{head?};
 ghost use Rattle.bits.specs.Bits.{bit_of};
 ghost use Rattle.ledger.specs.Events.{is_request, agrees_with};
 ghost use Rattle.ledger.specs.Memory.{request_at, pending_in};
 ghost use Rattle.ledger.specs.Parents.{brought_by};
 ghost use Rattle.ledger.specs.Settings.{is_beyond};
-ghost use Rattle.ledger.specs.Working.{reply_of, Judges};
+ghost use Rattle.ledger.specs.Told.{told_left, told_verdict};
+ghost use Rattle.ledger.specs.Working.{reply_of, taking, left_behind, Judges};
 
 use crate::commands::{is_request, says_yes};
 use crate::memory::waiting;
-use table::Rules;
+use table::{Refusal, Rules};
 use walk::{Step, step_at};
 
 // Whether the low byte of a request's payload is the index of no channel that is held.
@@ -64,8 +65,15 @@ fn is_due(
     false
 }
 
-// What a command needs: 0 for nothing that may be missing, 4 for an entry's room, 17 for room among the open requests, which is not there.
-fn need_of(
+// An entry takes the room of one: so much is left behind it of what was before.
+fn room_after(left: usize) -> Result<usize, Refusal>
+    ensures { told_left result ≡ taking 1 left }
+{
+    left.checked_sub(1).ok_or(Refusal::BufferTooShort)
+}
+
+// A command that so many of its CID go before, in a line with room left for so many entries: how many have room behind it.
+fn left_after(
     rules: Rules,
     stream: &[u8],
     pending: &[u64; 528],
@@ -73,85 +81,58 @@ fn need_of(
     body: usize,
     cid: u8,
     len: usize,
-) -> u8
+    left: usize,
+) -> Result<usize, Refusal>
     requires cid_bound { cid < 16 }
     requires len_in_bounds { body + len ≤ length stream.now }
-    ensures { result ≡
-        cond (is_request rules cid) (cond (ltb (length (pending_in pending.now cid) + before) 8) 0 17)
-        (4 * length (brought_by (reply_of cid (agrees_with cid (take len (drop body stream.now))) 0 0 0)
-        (head? (drop before (pending_in pending.now cid))))) }
+    ensures { told_left result ≡ left_behind pending.now (is_request rules cid) before cid (agrees_with cid (take len (drop body stream.now))) left }
 {
     if is_request(rules, cid) {
         let c = cid as usize;
         let open = waiting(pending, c);
         let free = 8 - open;
-        return if before < free { 0 } else { 17 };
+        return if before < free {
+            Ok(left)
+        } else {
+            Err(Refusal::PendingFull)
+        };
     }
     if is_due(stream, pending, before, body, cid, len) {
-        4
+        room_after(left)
     } else {
-        0
+        Ok(left)
     }
 }
 
-// The refusal of a command that needs this, where so many entries have room; 0 for none.
-fn fault_of(need: u8, left: usize) -> u8
-    ensures { result ≡ cond (eqb need 4) (cond (eqb left 0) 4 0) need }
-{
-    if need == 4 {
-        return if left == 0 { 4 } else { 0 };
-    }
-    need
-}
-
-// How many entries have room behind it.
-fn left_after(need: u8, left: usize) -> usize
-    ensures { result ≡ cond (eqb need 4) (left - 1) left }
-{
-    if need == 4 {
-        return if left == 0 { 0 } else { left - 1 };
-    }
-    left
-}
-
-fn room_left(listed: usize, room: usize) -> usize
-    ensures { result ≡ room - listed }
-{
-    if listed < room { room - listed } else { 0 }
-}
-
-// The number of the first refusal in a line, in the order of its stream: 4 where an entry has no room, 17 where a request has none; 0 for none.
+// Whether a line is taken, or the first refusal in it, in the order of its stream.
 pub(crate) fn judge(
     rules: Rules,
     stream: &[u8],
     pending: &[u64; 528],
     listed: usize,
     room: usize,
-) -> u8
-    ensures { Judges rules stream.now pending.now listed room result }
+) -> Result<(), Refusal>
+    ensures { Judges rules stream.now pending.now listed room (told_verdict result) }
 {
     let mut seen = [0usize; 16];
-    let mut left = room_left(listed, room);
+    let mut left = room.saturating_sub(listed);
     let mut at: usize = 0;
-    loop {
-        let found = step_at(rules, stream, at);
-        match found {
+    'commands: loop {
+        match step_at(rules, stream, at) {
             Step::Command { cid, len, next } => {
                 let c = cid as usize;
                 let before = seen[c];
                 seen[c] = before + 1;
                 let body = at + 1;
-                let need = need_of(rules, stream, pending, before, body, cid, len);
-                let fault = fault_of(need, left);
-                if fault != 0 {
-                    break fault;
-                }
-                left = left_after(need, left);
+                left = left_after(rules, stream, pending, before, body, cid, len, left)?;
                 at = next;
             }
-            Step::End => break 0,
-            Step::Stop { reason: _, at: _ } => break fault_of(4, left),
-            Step::Refused(_) => break 0,
+            Step::End => return Ok(()),
+            Step::Stop { reason: _, at: _ } => {
+                room_after(left)?;
+                return Ok(());
+            }
+            Step::Refused(_) => return Ok(()),
         }
     }
 }

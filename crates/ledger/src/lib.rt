@@ -14,8 +14,8 @@ ghost use Rattle.std.specs.Prelude.{◌≡◌};
 ghost use Rattle.ledger.specs.Asked.{fresh_ledger};
 
 pub use entries::{Entry, entry_at};
-pub use exchange::{Replayed, replay_trace};
-pub use settings::Held;
+pub use exchange::{BadLine, replay_trace};
+pub use settings::Parent;
 
 #[derive(Clone, Copy)]
 pub struct Ledger {

@@ -32,11 +32,9 @@ use payloads::{
     RXParamSetupReqPayload, RXTimingSetupReqPayload, TXParamSetupReqPayload,
 };
 
-// Whether a setting has a parent, where that request stands, what it says of the setting, and whether the parent before it said the same.
-// Where there is no parent, every number is 0 and every answer no.
-#[derive(Clone, Copy)]
-pub struct Held {
-    pub known: bool,
+// A setting's parent: where that request stands, what it says of the setting, and whether the parent before it said the same.
+#[derive(Clone, Copy, PartialEq, Eq)]
+pub struct Parent {
     pub line: u64,
     pub frame: u64,
     pub offset: u64,
@@ -163,32 +161,23 @@ fn said(which: Which, n: u64) -> u32
 // ---- Answers.
 
 // What is answered of a row whose last parent says `last`, and the one before it `before`.
-fn answer(row: Row, last: u32, before: u32) -> Held
+fn answer(row: Row, last: u32, before: u32) -> Option<Parent>
     ensures { result ≡ answered row last before }
 {
-    if 0 < row.count {
-        Held {
-            known: true,
-            line: row.line,
-            frame: row.frame,
-            offset: row.offset,
-            value: last,
-            unchanged: 1 < row.count && last == before,
-        }
-    } else {
-        Held {
-            known: false,
-            line: 0,
-            frame: 0,
-            offset: 0,
-            value: 0,
-            unchanged: false,
-        }
+    if row.count == 0 {
+        return None;
     }
+    Some(Parent {
+        line: row.line,
+        frame: row.frame,
+        offset: row.offset,
+        value: last,
+        unchanged: 1 < row.count && last == before,
+    })
 }
 
 // What is shown of a setting, whose row is p.
-fn parent(held: &[u64], which: Which, p: u8) -> Held
+fn parent_of(held: &[u64], which: Which, p: u8) -> Option<Parent>
     requires { p ≡ row_of (setting_of which) }
     ensures { result ≡ in_hand (shown (setting_of which) (held_in held.now (setting_of which))) }
 {
@@ -197,117 +186,117 @@ fn parent(held: &[u64], which: Which, p: u8) -> Held
 }
 
 impl Ledger {
-    pub fn data_rate(self) -> Held
+    pub fn data_rate(self) -> Option<Parent>
         ensures { result ≡ in_hand (shown data_rate (held_in self.held data_rate)) }
     {
         let held = self.held;
-        parent(&held, Which::DataRate, 0)
+        parent_of(&held, Which::DataRate, 0)
     }
 
-    pub fn tx_power(self) -> Held
+    pub fn tx_power(self) -> Option<Parent>
         ensures { result ≡ in_hand (shown tx_power (held_in self.held tx_power)) }
     {
         let held = self.held;
-        parent(&held, Which::TxPower, 0)
+        parent_of(&held, Which::TxPower, 0)
     }
 
     // The two bytes as a number, the low byte first.
-    pub fn channel_mask(self) -> Held
+    pub fn channel_mask(self) -> Option<Parent>
         ensures { result ≡ in_hand (shown channel_mask (held_in self.held channel_mask)) }
     {
         let held = self.held;
-        parent(&held, Which::ChannelMask, 0)
+        parent_of(&held, Which::ChannelMask, 0)
     }
 
     // The whole byte.
-    pub fn redundancy(self) -> Held
+    pub fn redundancy(self) -> Option<Parent>
         ensures { result ≡ in_hand (shown redundancy (held_in self.held redundancy)) }
     {
         let held = self.held;
-        parent(&held, Which::Redundancy, 0)
+        parent_of(&held, Which::Redundancy, 0)
     }
 
     // The number n of 1 / 2^n.
-    pub fn max_duty_cycle(self) -> Held
+    pub fn max_duty_cycle(self) -> Option<Parent>
         ensures { result ≡ in_hand (shown max_duty_cycle (held_in self.held max_duty_cycle)) }
     {
         let held = self.held;
-        parent(&held, Which::MaxDutyCycle, 1)
+        parent_of(&held, Which::MaxDutyCycle, 1)
     }
 
-    pub fn rx1_dr_offset(self) -> Held
+    pub fn rx1_dr_offset(self) -> Option<Parent>
         ensures { result ≡ in_hand (shown rx1_dr_offset (held_in self.held rx1_dr_offset)) }
     {
         let held = self.held;
-        parent(&held, Which::Rx1DrOffset, 2)
+        parent_of(&held, Which::Rx1DrOffset, 2)
     }
 
-    pub fn rx2_data_rate(self) -> Held
+    pub fn rx2_data_rate(self) -> Option<Parent>
         ensures { result ≡ in_hand (shown rx2_data_rate (held_in self.held rx2_data_rate)) }
     {
         let held = self.held;
-        parent(&held, Which::Rx2DataRate, 2)
+        parent_of(&held, Which::Rx2DataRate, 2)
     }
 
-    pub fn rx2_frequency(self) -> Held
+    pub fn rx2_frequency(self) -> Option<Parent>
         ensures { result ≡ in_hand (shown rx2_frequency (held_in self.held rx2_frequency)) }
     {
         let held = self.held;
-        parent(&held, Which::Rx2Frequency, 2)
+        parent_of(&held, Which::Rx2Frequency, 2)
     }
 
-    pub fn delay(self) -> Held
+    pub fn delay(self) -> Option<Parent>
         ensures { result ≡ in_hand (shown delay (held_in self.held delay)) }
     {
         let held = self.held;
-        parent(&held, Which::Delay, 3)
+        parent_of(&held, Which::Delay, 3)
     }
 
-    pub fn downlink_dwell_time(self) -> Held
+    pub fn downlink_dwell_time(self) -> Option<Parent>
         ensures { result ≡ in_hand (shown downlink_dwell_time (held_in self.held downlink_dwell_time)) }
     {
         let held = self.held;
-        parent(&held, Which::DownlinkDwellTime, 4)
+        parent_of(&held, Which::DownlinkDwellTime, 4)
     }
 
-    pub fn uplink_dwell_time(self) -> Held
+    pub fn uplink_dwell_time(self) -> Option<Parent>
         ensures { result ≡ in_hand (shown uplink_dwell_time (held_in self.held uplink_dwell_time)) }
     {
         let held = self.held;
-        parent(&held, Which::UplinkDwellTime, 4)
+        parent_of(&held, Which::UplinkDwellTime, 4)
     }
 
-    pub fn max_eirp(self) -> Held
+    pub fn max_eirp(self) -> Option<Parent>
         ensures { result ≡ in_hand (shown max_eirp (held_in self.held max_eirp)) }
     {
         let held = self.held;
-        parent(&held, Which::MaxEirp, 4)
+        parent_of(&held, Which::MaxEirp, 4)
     }
 
     // Of a channel over 15 no parent is known, here and in the two below.
-    pub fn channel_frequency(self, channel: u8) -> Held
+    pub fn channel_frequency(self, channel: u8) -> Option<Parent>
         ensures { result ≡ in_hand (shown (channel_frequency channel) (held_in self.held (channel_frequency channel))) }
     {
         let held = self.held;
-        parent(
+        parent_of(
             &held,
             Which::ChannelFrequency(channel),
             channel_row(5, channel),
         )
     }
 
-    pub fn channel_rates(self, channel: u8) -> Held
+    pub fn channel_rates(self, channel: u8) -> Option<Parent>
         ensures { result ≡ in_hand (shown (channel_rates channel) (held_in self.held (channel_rates channel))) }
     {
         let held = self.held;
-        parent(&held, Which::ChannelRates(channel), channel_row(5, channel))
+        parent_of(&held, Which::ChannelRates(channel), channel_row(5, channel))
     }
 
-    pub fn downlink_frequency(self, channel: u8) -> Held
+    pub fn downlink_frequency(self, channel: u8) -> Option<Parent>
         ensures { result ≡ in_hand (shown (downlink_frequency channel) (held_in self.held (downlink_frequency channel))) }
     {
         let held = self.held;
-        parent(
+        parent_of(
             &held,
             Which::DownlinkFrequency(channel),
             channel_row(21, channel),

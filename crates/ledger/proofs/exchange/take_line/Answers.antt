@@ -1,32 +1,48 @@
 -- `take_line` meets its contract. Assumes nothing.
 use Prim.Native.Nat.{ℕ}
-use mathlib.Core.Bool.{not}
-use mathlib.Core.Path.{refl, sym, ap, ◌∙◌}
-use borrow.Author.Rules.{rules}
-use native.Mathlib.Nat.{sub-zero}
+use mathlib.Core.Option.{some}
+use mathlib.Core.Path.{◌≡◌, refl, sym, ap, ◌∙◌}
+use native.Mathlib.Omega.{arith}
 use lib.ListN.{take}
+use Rattle.std.specs.Prelude.{Some}
+use Rattle.std.proofs.lemmas.Result.{err_from_is_err_and}
 use Rattle.ledger.specs.Book.{steps}
 use Rattle.ledger.specs.Events.{following}
-use Rattle.ledger.specs.Working.{book_in, events_from, fault_in}
-use Rattle.ledger.proofs.Following.{line_in, no_line, a_line, line_refused, line_taken}
+use Rattle.ledger.specs.Trace.{TraceLine}
+use Rattle.ledger.specs.Working.{book_in, events_from, front_at}
+use Rattle.ledger.proofs.Following.{line_refused, line_taken}
 use Rattle.ledger.proofs.exchange.take_line.Goals as goal
+use Rattle.ledger.proofs.exchange.take_line.Goals.{In_ok-found}
 
-pub returns-then-fault-ne0-clause-list_after : goal.returns-then-fault-ne0-clause-list_after
-returns-then-fault-ne0-clause-list_after c = let a = c.args in
-    let e = c.line_at-found.ensures.stream_after in
-    let r = c.line_at-found.result in
-    let buffer = c.line_at-found.new.stream in line_refused a.text.now a.at a.lines a.listed c.judge-fault.result a.pending.now a.held.now a.list.now (line_in a.text.now a.at r buffer e) r.next
-    c.new-rules.result (a_line a.text.now a.at r buffer e (ap not c.if-not-ok.false)) c.new-rules.ensures c.if-fault-ne0.true
-    (c.judge-fault.ensures (following a.lines) r.frame (following a.lines) a.held.now a.list.now refl
-    ∙ ap (λ (k : ℕ). fault_in (steps (events_from c.new-rules.result (following a.lines) r.frame (take k buffer) 0) (book_in (following a.lines) a.listed a.pending.now a.held.now a.list.now))) (sub-zero r.len))
+module _ (c : In_ok-found) where
+  abbrev line : TraceLine
+  line = record { frame = c.in_ok-found.found.frame; direction = c.in_ok-found.found.direction; stream = take c.in_ok-found.found.len c.line_at.new.stream }
 
-pub returns-clause-list_after : goal.returns-clause-list_after
-returns-clause-list_after c = let a = c.args in
-    let e = c.line_at-found.ensures.stream_after in
-    let r = c.line_at-found.result in
-    let buffer = c.line_at-found.new.stream in
-    let x = line_in a.text.now a.at r buffer e in line_taken a.text.now a.at a.lines a.listed a.pending.now a.held.now a.list.now x r.next c.new-rules.result
-    (a_line a.text.now a.at r buffer e (ap not c.if-not-ok.false)) c.new-rules.ensures
+  found : front_at c.args.text.now c.args.at ≡ some (line, c.in_ok-found.found.next)
+  found =
+      let is : c.line_at.result ≡ Some c.in_ok-found.found = grind arith in
+      sym (rw is at c.line_at.ensures.stream_after)
+
+pub returns-in_err-judge : goal.returns-in_err-judge
+returns-in_err-judge c =
+    let a = c.args in
+    let l = a.ledger.now in
+    let f = c.in_ok-found.found in
+    let buffer = c.line_at.new.stream in
+    let p = err_from_is_err_and c.from_residual-in_err-judge.result c.from_residual-in_err-judge.ensures.1 in
+    rw (p.1, p.2)
+    (line_refused a.text.now a.at l.lines l.listed _ l.pending l.held a.list.now (line (goal.at.returns-in_err-judge c).In_ok-found) f.next
+    c.new-rules.result (found (goal.at.returns-in_err-judge c).In_ok-found) c.new-rules.ensures
+    (c.in_err-judge.ensures (following l.lines) f.frame (following l.lines) l.held a.list.now refl))
+
+pub returns : goal.returns
+returns c =
+    let a = c.args in
+    let l = a.ledger.now in
+    let f = c.in_ok-found.found in
+    let buffer = c.line_at.new.stream in
+    let x = line (goal.at.returns c).In_ok-found in
+    line_taken a.text.now a.at l.lines l.listed l.pending l.held a.list.now x f.next c.new-rules.result
+    (found (goal.at.returns c).In_ok-found) c.new-rules.ensures
     (c.apply-count.ensures
-    ∙ ap (λ (k : ℕ). steps (events_from c.new-rules.result c.number_after-line.result r.frame (take k buffer) 0) (book_in c.number_after-line.result a.listed a.pending.now a.held.now a.list.now)) (sub-zero r.len)
-    ∙ ap (λ (k : ℕ). steps (events_from c.new-rules.result k x.frame x.stream 0) (book_in k a.listed a.pending.now a.held.now a.list.now)) c.number_after-line.ensures)
+    ∙ ap (λ (k : ℕ). steps (events_from c.new-rules.result k x.frame x.stream 0) (book_in k l.listed l.pending l.held a.list.now)) c.number_after-number.ensures)

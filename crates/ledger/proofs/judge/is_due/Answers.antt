@@ -5,7 +5,7 @@ use native.Mathlib.Omega.{arith}
 use lib.ListN.{take, drop}
 use Rattle.bits.specs.Bits.{bit_of}
 use Rattle.ledger.specs.Events.{agrees_with}
-use Rattle.ledger.proofs.Judging.{due_stray, due_far, due_near}
+use Rattle.ledger.proofs.Judging.{due_far, due_near}
 use Rattle.ledger.proofs.MemoryPending.{pending_few}
 use Rattle.ledger.proofs.judge.is_due.Goals as goal
 

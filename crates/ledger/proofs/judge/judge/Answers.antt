@@ -1,16 +1,18 @@
 -- `judge` meets its contract. The loop's invariant: nothing before `at` is refused, `seen` commands of each CID stand there, and `left` entries have
 -- room behind them. The measure is what is left of the stream. Assumes nothing.
-use Prim.Native.Nat.{ℕ, ◌-◌, ◌<◌}
-use mathlib.Core.Path.{◌≡◌, sym, ap, ◌∙◌}
-use borrow.Author.Rules.{rules}
+use Prim.Native.Nat.{ℕ, ◌<◌}
+use mathlib.Core.Path.{◌≡◌, sym, ap, subst, ◌∙◌}
 use native.Mathlib.Omega.{arith}
-use lib.ListN.{length}
 use Rattle.table.specs.Answers.{given}
 use Rattle.table.specs.Table.{length_of}
 use Rattle.walk.specs.Step.{command, heading, step_at}
 use Rattle.walk.specs.Told.{told_step}
-use Rattle.ledger.proofs.Judging.{Judged, judged_none, judged_end, judged_never, judged_stop, judged_fault, judged_next}
+use Rattle.ledger.proofs.Judging.{judged_none, judged_end, judged_never, judged_stop, judged_fault, judged_next}
 use Rattle.ledger.proofs.Walking.{Stands, stands}
+use Rattle.std.specs.Prelude.{Err}
+use Rattle.std.proofs.lemmas.Result.{err_from_is_err_and}
+use Rattle.ledger.specs.Told.{told_verdict}
+use Rattle.ledger.specs.Working.{Judges}
 use Rattle.ledger.proofs.judge.judge.Goals as goal
 use Rattle.ledger.proofs.judge.judge.Goals.{In-Command}
 
@@ -26,10 +28,10 @@ module _ (c : In-Command) where
   next = c.in-Command.next
 
   abbrev at : ℕ
-  at = c.loop-cid.at
+  at = c.commands.at
 
   step_is : step_at (length_of c.args.rules) c.args.stream.now at ≡ given (command (heading cid len) next)
-  step_is = sym c.step_at-found.ensures ∙ ap told_step c.in-Command.is
+  step_is = sym c.step_at.ensures ∙ ap told_step c.in-Command.is
 
   stands_here : Stands c.args.rules c.args.stream.now at cid len next
   stands_here = stands c.args.rules c.args.stream.now step_is
@@ -37,55 +39,66 @@ module _ (c : In-Command) where
   low : cid < 16
   low = stands_here.low
 
-pub loop-cid-init : goal.loop-cid-init
-loop-cid-init c =
+pub commands-init : goal.commands-init
+commands-init c =
     let a = c.args in
-    judged_none a.rules a.stream.now a.pending.now a.listed a.room c.room_left-left.ensures
+    judged_none a.rules a.stream.now a.pending.now a.listed a.room c.saturating_sub-left.ensures
 
 pub bounds-seen-c : goal.bounds-seen-c
 bounds-seen-c c =
-    (stands c.args.rules c.args.stream.now (sym c.step_at-found.ensures ∙ ap told_step c.in-Command.is)).low
+    (stands c.args.rules c.args.stream.now (sym c.step_at.ensures ∙ ap told_step c.in-Command.is)).low
 
 pub bounds-seen-c-in-Command : goal.bounds-seen-c-in-Command
 bounds-seen-c-in-Command c = low c
 
-pub need_of-need-requires-clause-cid_bound : goal.need_of-need-requires-clause-cid_bound
-need_of-need-requires-clause-cid_bound c = low c
+pub left_after-requires-clause-cid_bound : goal.left_after-requires-clause-cid_bound
+left_after-requires-clause-cid_bound c = low c
 
-pub need_of-need-requires-clause-len_in_bounds : goal.need_of-need-requires-clause-len_in_bounds
-need_of-need-requires-clause-len_in_bounds c = omega (arith, (stands_here c).behind, (stands_here c).fits)
+pub left_after-requires-clause-len_in_bounds : goal.left_after-requires-clause-len_in_bounds
+left_after-requires-clause-len_in_bounds c = omega (arith, (stands_here c).behind, (stands_here c).fits)
 
-pub loop-cid-smaller : goal.loop-cid-smaller
-loop-cid-smaller c =
-    omega (arith, (stands_here (goal.at.loop-cid-smaller c).In-Command).behind, (stands_here (goal.at.loop-cid-smaller c).In-Command).fits)
+pub commands-smaller : goal.commands-smaller
+commands-smaller c =
+    omega (arith, (stands_here (goal.at.commands-smaller c).In-Command).behind, (stands_here (goal.at.commands-smaller c).In-Command).fits)
 
-pub loop-cid-preserved : goal.loop-cid-preserved
-loop-cid-preserved c =
+pub commands-preserved : goal.commands-preserved
+commands-preserved c =
     let a = c.args in
-    judged_next a.rules a.stream.now a.pending.now a.listed a.room c.loop-cid.invariant (step_is (goal.at.loop-cid-preserved c).In-Command)
-    c.need_of-need.ensures c.fault_of-fault.ensures (omega arith) c.left_after-left.ensures
+    judged_next a.rules a.stream.now a.pending.now a.listed a.room c.commands.invariant (step_is (goal.at.commands-preserved c).In-Command)
+    c.in_ok-left-in-Command.ensures
 
-pub returns-then-fault-ne0 : goal.returns-then-fault-ne0
-returns-then-fault-ne0 c =
+pub returns-in_err-left-in-Command : goal.returns-in_err-left-in-Command
+returns-in_err-left-in-Command c =
     let a = c.args in
-    judged_fault a.rules a.stream.now a.pending.now a.listed a.room c.loop-cid.invariant (step_is (goal.at.returns-then-fault-ne0 c).In-Command)
-    c.need_of-need.ensures c.fault_of-fault.ensures c.if-fault-ne0.true
+    let p = err_from_is_err_and c.from_residual.result c.from_residual.ensures.1 in
+    subst (Judges a.rules a.stream.now a.pending.now a.listed a.room) (ap told_verdict (sym (p.1 ∙ ap Err p.2)))
+    (judged_fault a.rules a.stream.now a.pending.now a.listed a.room c.commands.invariant (step_is (goal.at.returns-in_err-left-in-Command c).In-Command)
+    c.in_err-left-in-Command.ensures)
 
 pub returns-in-End : goal.returns-in-End
 returns-in-End c =
     let a = c.args in
-    judged_end a.rules a.stream.now a.pending.now a.listed a.room c.loop-cid.invariant
-    (sym c.step_at-found.ensures ∙ ap told_step c.in-End.is)
+    judged_end a.rules a.stream.now a.pending.now a.listed a.room c.commands.invariant
+    (sym c.step_at.ensures ∙ ap told_step c.in-End.is)
+
+pub returns-in_err-room_after-in-Stop : goal.returns-in_err-room_after-in-Stop
+returns-in_err-room_after-in-Stop c =
+    let a = c.args in
+    let p = err_from_is_err_and c.from_residual-in_err-room_after-in-Stop.result c.from_residual-in_err-room_after-in-Stop.ensures.1 in
+    subst (Judges a.rules a.stream.now a.pending.now a.listed a.room) (ap told_verdict (sym (p.1 ∙ ap Err p.2)))
+    (judged_stop a.rules a.stream.now a.pending.now a.listed a.room c.commands.invariant
+    (sym c.step_at.ensures ∙ ap told_step c.in-Stop.is)
+    c.in_err-room_after-in-Stop.ensures)
 
 pub returns-in-Stop : goal.returns-in-Stop
 returns-in-Stop c =
     let a = c.args in
-    judged_stop a.rules a.stream.now a.pending.now a.listed a.room c.loop-cid.invariant
-    (sym c.step_at-found.ensures ∙ ap told_step c.in-Stop.is)
-    c.fault_of.ensures
+    judged_stop a.rules a.stream.now a.pending.now a.listed a.room c.commands.invariant
+    (sym c.step_at.ensures ∙ ap told_step c.in-Stop.is)
+    c.in_ok-room_after-in-Stop.ensures
 
 pub returns-in-Refused : goal.returns-in-Refused
 returns-in-Refused c =
     let a = c.args in
-    judged_never a.rules a.stream.now a.pending.now a.listed a.room c.loop-cid.invariant
-    (sym c.step_at-found.ensures ∙ ap told_step c.in-Refused.is)
+    judged_never a.rules a.stream.now a.pending.now a.listed a.room c.commands.invariant
+    (sym c.step_at.ensures ∙ ap told_step c.in-Refused.is)

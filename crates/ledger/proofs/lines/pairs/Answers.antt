@@ -1,9 +1,6 @@
 -- `pairs` meets its contract. The loop's invariant: `n` pairs are read, up to `i`, and their bytes are in front in the memory. The measure is the
 -- room that is left there. Assumes nothing.
-use Prim.Native.Nat.{◌-◌}
-use borrow.Author.Rules.{rules}
-use native.Mathlib.Omega.{arith}
-use Rattle.ledger.proofs.TracingSteps.{Paired, Room, paired_none, paired_room, paired_more, paired_end, paired_no_high, paired_no_low}
+use Rattle.ledger.proofs.TracingSteps.{Room, paired_room, paired_more, paired_end, paired_no_high, paired_no_low}
 use Rattle.ledger.proofs.lines.pairs.Goals as goal
 use Rattle.ledger.proofs.lines.pairs.Goals.{In-loop-n}
 

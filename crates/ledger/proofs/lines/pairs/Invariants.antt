@@ -1,8 +1,6 @@
 -- What the loop keeps true.
 use Prim.Native.Nat.{◌-◌}
-use borrow.Author.Rules.{rules}
-use native.Mathlib.Omega.{arith}
-use Rattle.ledger.proofs.TracingSteps.{Paired, Room, paired_none, paired_room, paired_more, paired_end, paired_no_high, paired_no_low}
+use Rattle.ledger.proofs.TracingSteps.{Paired}
 use Rattle.ledger.proofs.lines.pairs.Given as goal
 
 abbrev pub invariant-loop-n : goal.invariant-loop-n

@@ -1,10 +1,7 @@
 -- `come_forward` meets its contract. The loop's invariant: the numbers passed came forward. Assumes nothing.
-use Prim.Native.Nat.{◌-◌, ◌≤◌}
-use mathlib.Core.Path.{◌≡◌, refl, ap, ◌∙◌}
 use native.Mathlib.Omega.{arith}
 use borrow.Author.Rules.{rules}
-use lib.ListN.{length}
-use Rattle.ledger.proofs.MemoryPending.{moved, moved_none, moved_more}
+use Rattle.ledger.proofs.MemoryPending.{moved_more}
 use Rattle.ledger.proofs.memory.come_forward.Goals as goal
 
 pub loop-j-preserved : goal.loop-j-preserved

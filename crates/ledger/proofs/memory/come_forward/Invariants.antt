@@ -1,10 +1,8 @@
 -- What the loop keeps true.
 use Prim.Native.Nat.{◌-◌, ◌≤◌}
-use mathlib.Core.Path.{◌≡◌, refl, ap, ◌∙◌}
-use native.Mathlib.Omega.{arith}
-use borrow.Author.Rules.{rules}
+use mathlib.Core.Path.{◌≡◌}
 use lib.ListN.{length}
-use Rattle.ledger.proofs.MemoryPending.{moved, moved_none, moved_more}
+use Rattle.ledger.proofs.MemoryPending.{moved}
 use Rattle.ledger.proofs.memory.come_forward.Given as goal
 
 abbrev pub invariant-loop-j : goal.invariant-loop-j

@@ -1,11 +1,8 @@
 -- `hold` meets its contract. Assumes nothing.
-use Prim.Native.Nat.{◌+◌}
 use mathlib.Core.Path.{◌≡◌}
-use native.Mathlib.Omega.{arith}
 use borrow.Author.Rules.{rules}
-use lib.ListN.{length, get_or}
+use lib.ListN.{length}
 use Rattle.ledger.proofs.MemoryHeld.{holds}
-use Rattle.ledger.proofs.MemoryRooms.{at_most_le}
 use Rattle.ledger.proofs.memory.hold.Goals as goal
 
 pub returns : goal.returns

@@ -1,7 +1,4 @@
 -- `put_four` meets its contract. Assumes nothing.
-use native.Mathlib.Omega.{arith}
-use lib.ListN.{length-set}
-use borrow.Author.Rules.{rules}
 use Rattle.ledger.proofs.MemoryRooms.{four_stored}
 use Rattle.ledger.proofs.memory.put_four.Goals as goal
 

@@ -1,11 +1,9 @@
 -- `take_answer` meets its contract. Assumes nothing.
 use Prim.Native.Nat.{◌<◌}
-use mathlib.Core.Path.{sym, ◌∙◌}
 use native.Mathlib.Omega.{arith}
-use borrow.Author.Rules.{rules}
 use lib.ListN.{length}
 use Rattle.ledger.specs.Memory.{pending_in}
-use Rattle.ledger.proofs.MemoryAnswers.{stray_room, notes_stray, room_beyond, answers_yes, answers_no}
+use Rattle.ledger.proofs.MemoryAnswers.{room_beyond, answers_yes}
 use Rattle.ledger.proofs.memory.take_answer.Goals as goal
 
 pub take_effect-requires : goal.take_effect-requires

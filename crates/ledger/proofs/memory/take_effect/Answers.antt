@@ -1,7 +1,5 @@
 -- `take_effect` meets its contract. Assumes nothing.
-use mathlib.Core.Path.{sym, ◌∙◌}
-use borrow.Author.Rules.{rules}
-use Rattle.ledger.proofs.MemoryAnswers.{holds_it, notes_it, writes_nothing}
+use Rattle.ledger.proofs.MemoryAnswers.{holds_it}
 use Rattle.ledger.proofs.memory.take_effect.Goals as goal
 
 pub returns-then-row-lt37 : goal.returns-then-row-lt37

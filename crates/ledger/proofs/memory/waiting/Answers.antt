@@ -1,7 +1,6 @@
 -- `waiting` meets its contract. Assumes nothing.
 use Prim.Native.Nat.{ℕ, ◌+◌, ◌*◌}
 use mathlib.Core.Path.{sym, ◌∙◌}
-use borrow.Author.Rules.{rules}
 use lib.ListN.{get_or}
 use Rattle.fields.proofs.Lists.{length_tabulate}
 use Rattle.ledger.specs.Memory.{at_most, request_at}

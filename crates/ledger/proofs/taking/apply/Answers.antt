@@ -1,15 +1,13 @@
 -- `apply` meets its contract. The loop's invariant is `Along`: the events from `at` on, from the book in hand, come to what all of them come to from
 -- the first book. The measure is what is left of the stream. Assumes nothing.
-use Prim.Native.Nat.{◌-◌}
-use mathlib.Core.Path.{◌≡◌, refl, sym, ap, ◌∙◌}
+use mathlib.Core.Path.{sym, ap, ◌∙◌}
 use borrow.Author.Rules.{rules}
 use native.Mathlib.Omega.{arith}
 use lib.ListN.{length}
 use Rattle.walk.specs.Told.{told_step}
 use Rattle.ledger.specs.Events.{place}
 use Rattle.ledger.specs.Parents.{stopped}
-use Rattle.ledger.specs.Working.{book_in}
-use Rattle.ledger.proofs.Applying.{Along, command_faultless, command_taken, at_end, stop_faultless, at_stop}
+use Rattle.ledger.proofs.Applying.{command_faultless, command_taken, at_end, stop_faultless, at_stop}
 use Rattle.ledger.proofs.MemoryAnswers.{room_for, is_noted}
 use Rattle.ledger.proofs.Walking.{stands, never_refused}
 use Rattle.ledger.proofs.taking.apply.Goals as goal

@@ -1,16 +1,9 @@
 -- What the loop keeps true.
 use Prim.Native.Nat.{◌-◌}
-use mathlib.Core.Path.{◌≡◌, refl, sym, ap, ◌∙◌}
-use borrow.Author.Rules.{rules}
-use native.Mathlib.Omega.{arith}
+use mathlib.Core.Path.{◌≡◌}
 use lib.ListN.{length}
-use Rattle.walk.specs.Told.{told_step}
-use Rattle.ledger.specs.Events.{place}
-use Rattle.ledger.specs.Parents.{stopped}
 use Rattle.ledger.specs.Working.{book_in}
-use Rattle.ledger.proofs.Applying.{Along, command_faultless, command_taken, at_end, stop_faultless, at_stop}
-use Rattle.ledger.proofs.MemoryAnswers.{room_for, is_noted}
-use Rattle.ledger.proofs.Walking.{stands, never_refused}
+use Rattle.ledger.proofs.Applying.{Along}
 use Rattle.ledger.proofs.taking.apply.Given as goal
 
 abbrev pub invariant-loop-cid : goal.invariant-loop-cid

@@ -1,11 +1,11 @@
 -- `take_command` meets its contract. Assumes nothing.
-use mathlib.Core.Path.{sym, ap, ◌∙◌}
+use mathlib.Core.Path.{sym, ◌∙◌}
 use borrow.Author.Rules.{rules}
 use native.Mathlib.Omega.{arith}
 use lib.ListN.{take, drop}
 use Prim.Native.Nat.{◌+◌}
-use Rattle.ledger.specs.Working.{book_in, fault_in}
-use Rattle.ledger.proofs.Applying.{room_for, asking, is_asked, is_replied, request_taken}
+use Rattle.ledger.specs.Working.{book_in}
+use Rattle.ledger.proofs.Applying.{is_asked, is_replied}
 use Rattle.ledger.proofs.Walking.{stands}
 use Rattle.ledger.proofs.taking.take_command.Goals as goal
 

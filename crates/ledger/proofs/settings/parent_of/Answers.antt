@@ -1,9 +1,8 @@
--- `parent` meets its contract: what is answered of the setting's row is what is shown of the setting. Assumes nothing.
+-- `parent_of` meets its contract: what is answered of the setting's row is what is shown of the setting. Assumes nothing.
 use mathlib.Core.Path.{◌∙◌}
-use borrow.Author.Rules.{rules}
 use Rattle.ledger.specs.Rows.{setting_of}
 use Rattle.ledger.proofs.Asking.{answers}
-use Rattle.ledger.proofs.settings.parent.Goals as goal
+use Rattle.ledger.proofs.settings.parent_of.Goals as goal
 
 pub returns : goal.returns
 returns c =

@@ -1,10 +1,8 @@
--- `number_at` meets its contract. The loop's invariant: the digits before `i` are read, and mean `value`. The measure is what is left of the text.
+-- `digits_at` meets its contract. The loop's invariant: the digits before `i` are read, and mean `value`. The measure is what is left of the text.
 -- Assumes nothing.
-use Prim.Native.Nat.{◌-◌}
 use native.Mathlib.Omega.{arith}
-use lib.ListN.{length}
-use Rattle.ledger.proofs.TracingSteps.{Counted, counted_none, counted_more, counted_end, counted_other, counted_large, number_zero}
-use Rattle.ledger.proofs.lines.number_at.Goals as goal
+use Rattle.ledger.proofs.TracingSteps.{counted_more, counted_end, counted_other, counted_large, number_zero}
+use Rattle.ledger.proofs.lines.digits_at.Goals as goal
 
 pub returns-then-zero-eq48-clause-value_value : goal.returns-then-zero-eq48-clause-value_value
 returns-then-zero-eq48-clause-value_value c = let n = number_zero c.args.text.now c.args.at c.requires c.if-zero-eq48.true in
@@ -16,8 +14,9 @@ returns-then-zero-eq48-clause-next_value c = let n = number_zero c.args.text.now
 
 pub loop-i-preserved : goal.loop-i-preserved
 loop-i-preserved c =
+    let bound = c.in-Some.ensures.bound in
     counted_more c.args.text.now c.args.at c.loop-i.invariant
-    c.loop-i-test.true c.digit-d.ensures c.if-d-gt9.false c.if-value-gt429496729.false
+    c.loop-i-test.true c.in-Some.ensures.value (omega arith) c.if-value-gt429496729.false
 
 pub returns-after-loop-i-clause-value_value : goal.returns-after-loop-i-clause-value_value
 returns-after-loop-i-clause-value_value c = let n = counted_end c.args.text.now c.args.at c.loop-i.invariant c.requires (λ e. omega arith) c.loop-i-test.false in
@@ -27,14 +26,14 @@ pub returns-after-loop-i-clause-next_value : goal.returns-after-loop-i-clause-ne
 returns-after-loop-i-clause-next_value c = let n = counted_end c.args.text.now c.args.at c.loop-i.invariant c.requires (λ e. omega arith) c.loop-i-test.false in
     n.there
 
-pub returns-then-d-gt9-clause-value_value : goal.returns-then-d-gt9-clause-value_value
-returns-then-d-gt9-clause-value_value c = let n = counted_other c.args.text.now c.args.at c.loop-i.invariant c.requires (λ e. omega arith)
-    c.loop-i-test.true c.digit-d.ensures c.if-d-gt9.true in
+pub returns-in_default-clause-value_value : goal.returns-in_default-clause-value_value
+returns-in_default-clause-value_value c = let n = counted_other c.args.text.now c.args.at c.loop-i.invariant c.requires (λ e. omega arith)
+    c.loop-i-test.true c.in_default.ensures.value (omega arith) in
     n.means
 
-pub returns-then-d-gt9-clause-next_value : goal.returns-then-d-gt9-clause-next_value
-returns-then-d-gt9-clause-next_value c = let n = counted_other c.args.text.now c.args.at c.loop-i.invariant c.requires (λ e. omega arith)
-    c.loop-i-test.true c.digit-d.ensures c.if-d-gt9.true in
+pub returns-in_default-clause-next_value : goal.returns-in_default-clause-next_value
+returns-in_default-clause-next_value c = let n = counted_other c.args.text.now c.args.at c.loop-i.invariant c.requires (λ e. omega arith)
+    c.loop-i-test.true c.in_default.ensures.value (omega arith) in
     n.there
 
 pub returns-then-value-gt429496729-clause-value_value : goal.returns-then-value-gt429496729-clause-value_value
