@@ -11,6 +11,8 @@ use Rattle.ledger.specs.Book.{Book, steps, counted, taken, going, taken_all, rep
 use Rattle.ledger.specs.Events.{Event, events_of, following, rules_for}
 use Rattle.ledger.specs.Trace.{TraceLine, lines_of}
 use Rattle.ledger.specs.Working.{book_in, fault_in, ended, events_from, front_at, by_taken, at_line}
+use Rattle.ledger.specs.declared.memory.Queue.{Queue}
+use Rattle.ledger.specs.declared.memory.Parents.{Parents}
 use Rattle.ledger.proofs.Tracing.{lines_end, line_read, none_read}
 
 abbrev both : Answer ℕ → Book → Answer ℕ × Book
@@ -44,7 +46,7 @@ ended_refused (given c) k e = cc
 ended_refused (refused j) k e = cc
 
 -- the line in front is refused
-pub line_refused : (text : List ℕ) (at lines listed k : ℕ) (p h l : List ℕ) (x : TraceLine) (next : ℕ) (rules : Rules) → front_at text at ≡ some (x, next)
+pub line_refused : (text : List ℕ) (at lines listed k : ℕ) (p : List Queue) (h : List Parents) (l : List ℕ) (x : TraceLine) (next : ℕ) (rules : Rules) → front_at text at ≡ some (x, next)
     → rules.direction ≡ x.direction
     → refused k ≡ ended (steps (events_from rules (following lines) x.frame x.stream 0) (book_in (following lines) listed p h l))
     → (refused k, book_in lines listed p h l) ≡ at_line (front_at text at) (book_in lines listed p h l)
@@ -56,7 +58,7 @@ line_refused text at lines listed k p h l x next rules e d is =
     sym (ap (λ (o : Option (TraceLine × ℕ)). at_line o b) e ∙ ap (λ (a : Answer Book). by_taken a next b) refusal)
 
 -- or taken
-pub line_taken : (text : List ℕ) (at lines listed : ℕ) (p h l : List ℕ) (x : TraceLine) (next : ℕ) (rules : Rules) {c : Book} → front_at text at ≡ some (x, next)
+pub line_taken : (text : List ℕ) (at lines listed : ℕ) (p : List Queue) (h : List Parents) (l : List ℕ) (x : TraceLine) (next : ℕ) (rules : Rules) {c : Book} → front_at text at ≡ some (x, next)
     → rules.direction ≡ x.direction
     → given c ≡ steps (events_from rules (following lines) x.frame x.stream 0) (book_in (following lines) listed p h l)
     → (given next, c) ≡ at_line (front_at text at) (book_in lines listed p h l)

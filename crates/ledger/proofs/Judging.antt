@@ -1,8 +1,9 @@
 -- A line is judged rightly before anything of it is written: what its commands will find is known from the open requests before it, and from how
 -- many commands of each CID went before. Assumes nothing.
-use Prim.Native.Nat.{ℕ, ◌+◌, ◌-◌, ◌*◌, ◌/◌, ◌%◌, ◌<◌, ◌≤◌}
+use Prim.Native.Nat.{ℕ, zero, suc, ◌+◌, ◌-◌, ◌*◌, ◌/◌, ◌%◌, ◌<◌, ◌≤◌}
 use mathlib.Core.Bool.{Bool, true, false, cond, ◌&&◌, ◌||◌, true≢false}
-use mathlib.Core.List.{List, [], ◌∷◌, ◌++◌, head?, tail}
+use mathlib.Core.List.{List, [], ◌∷◌, ◌++◌, head?, tail, map}
+use Rattle.std.specs.Prelude.{None, Some, slice_get}
 use mathlib.Core.Option.{Option, none, some}
 use mathlib.Core.Path.{◌≡◌, refl, sym, ap, ◌∙◌, subst}
 use native.Mathlib.Decide.{dec_lt}
@@ -10,24 +11,11 @@ use native.Mathlib.Nat.{sub-zero}
 use native.Mathlib.Omega.{arith}
 use borrow.Author.Tests.{eqb-true, eqb-false, ne_eqb, lt-ltb, le-ltb}
 use lib.Dec.{eqb, ltb}
-use lib.ListN.{
-  length,
-  get_or,
-  take,
-  drop,
-  set,
-  replicate,
-  length-append,
-  length-set,
-  drop_of_length-le,
-  get_or-replicate,
-  get_or-eq_default,
-}
-use lib.Seq.{drop-cons, drop-drop, get_or-set_same, get_or-set_other}
+use lib.ListN.{length, get_or, take, drop, set, replicate, length-append, length-set, get_or-replicate, get_or-eq_default}
+use lib.Seq.{drop-drop, get_or-set_same, get_or-set_other}
 use Rattle.bits.proofs.Memory.{over_length}
 use Rattle.bits.specs.Bits.{field, bit_of}
 use Rattle.bits.specs.Memory.{over}
-use Rattle.fields.proofs.Lists.{length_tabulate, get_d_tabulate}
 use Rattle.payloads.specs.Commands.{in_five}
 use Rattle.table.specs.Answers.{Answer, given, refused, accepted}
 use Rattle.table.specs.Table.{length_of}
@@ -36,10 +24,13 @@ use Rattle.walk.specs.Step.{ended as ended_step, command, stopped as stopped_at,
 use Rattle.walk.specs.Walk.{placed}
 use Rattle.ledger.specs.Book.{Book, in_four, noted, put, opening, takes_effect, decided, answering, asked, step, onward, steps}
 use Rattle.ledger.specs.Events.{Request, Reply, Event, request, reply, is_request, agrees_with, place, event_of}
-use Rattle.ledger.specs.Memory.{at_most, request_at, pending_in}
+use Rattle.ledger.specs.Memory.{request_of, open_requests, open_in, pending_in}
 use Rattle.ledger.specs.Parents.{Note, beyond, stray, stopped, brought_by}
 use Rattle.ledger.specs.Settings.{is_beyond}
 use Rattle.ledger.specs.Working.{reply_of, book_in, ended, events_from, taking, left_behind, Judges}
+use Rattle.ledger.specs.declared.memory.Asked.{Asked}
+use Rattle.ledger.specs.declared.memory.Queue.{Queue}
+use Rattle.ledger.specs.declared.memory.Parents.{Parents}
 use Rattle.ledger.proofs.Walking.{Stands, stands, events_command, events_end, events_stop, never_refused}
 
 -- ---- lists
@@ -55,13 +46,6 @@ none_tail : {A : Type 0} (l : List A) → head? l ≡ none → l ≡ tail l
 none_tail [] e = refl
 none_tail (a ∷ l) e = let no_way : ◌≡◌ {A = ℕ} 0 1 = cc in absurd (omega arith)
 
--- ---- the open requests of a CID
-
-open_at : (p : List ℕ) (c k : ℕ) → k < length (pending_in p c) → head? (drop k (pending_in p c)) ≡ some (request_at c p (32 * c + 4 * k))
-open_at p c k h =
-    let l : length (pending_in p c) ≡ at_most 8 (get_or p (512 + c) 0) = length_tabulate _ _ in
-    ap head? (drop-cons (pending_in p c) k (request_at c p 0) h) ∙ ap some (get_d_tabulate _ _ k (request_at c p 0) (omega arith))
-
 -- ---- a request for a channel that is not held, by the low byte of its payload
 
 index : (n : ℕ) → field 0 8 (n % 256) ≡ n % 256
@@ -71,65 +55,77 @@ either : (t : Bool) → (t || false) ≡ t
 either true = refl
 either false = refl
 
-module _ (p : List ℕ) {c : ℕ} (i : ℕ) where
-  pub beyond_new : c ≡ 0x07 → ltb 15 (get_or p (i + 3) 0 % 256) ≡ is_beyond (request_at c p i)
-  beyond_new e = sym (ap (λ (k : ℕ). is_beyond (request_at k p i)) e ∙ either _ ∙ ap (ltb 15) (index (get_or p (i + 3) 0)))
+module _ (r : Asked) (c : ℕ) where
+  pub beyond_new : c ≡ 0x07 → ltb 15 (r.payload % 256) ≡ is_beyond (request_of c r)
+  beyond_new e = sym (ap (λ (k : ℕ). is_beyond (request_of k r)) e ∙ either _ ∙ ap (ltb 15) (index r.payload))
 
-  pub beyond_dl : c ≡ 0x0A → ltb 15 (get_or p (i + 3) 0 % 256) ≡ is_beyond (request_at c p i)
-  beyond_dl e = sym (ap (λ (k : ℕ). is_beyond (request_at k p i)) e ∙ ap (ltb 15) (index (get_or p (i + 3) 0)))
+  pub beyond_dl : c ≡ 0x0A → ltb 15 (r.payload % 256) ≡ is_beyond (request_of c r)
+  beyond_dl e = sym (ap (λ (k : ℕ). is_beyond (request_of k r)) e ∙ ap (ltb 15) (index r.payload))
 
-  pub beyond_not : (c ≡ 0x07 → ⊥) → (c ≡ 0x0A → ⊥) → false ≡ is_beyond (request_at c p i)
+  pub beyond_not : (c ≡ 0x07 → ⊥) → (c ≡ 0x0A → ⊥) → false ≡ is_beyond (request_of c r)
   beyond_not a b = rw (ne_eqb c 7 a, ne_eqb c 10 b)
 
 -- ---- whether an answer brings an entry
 
-module _ (p : List ℕ) (c k : ℕ) where
-  abbrev pub brought : Bool → ℕ
-  brought yea = length (brought_by (reply_of c yea 0 0 0) (head? (drop k (pending_in p c))))
+open_none : (c : ℕ) (l : List Asked) (k : ℕ) → slice_get l k ≡ None → head? (drop k (map (request_of c) l)) ≡ none
+open_none c [] zero e = refl
+open_none c [] (suc k) e = refl
+open_none c (x ∷ l) zero e = cc
+open_none c (x ∷ l) (suc k) e = open_none c l k e
 
-  pub due_stray : (yea : Bool) → length (pending_in p c) ≤ k → 1 ≡ brought yea
-  due_stray yea h = sym (ap (λ (l : List Request). length (brought_by (reply_of c yea 0 0 0) (head? l))) (drop_of_length-le (pending_in p c) {i = k} h))
+open_some : (c : ℕ) (l : List Asked) (k : ℕ) (r : Asked) → slice_get l k ≡ Some r → head? (drop k (map (request_of c) l)) ≡ some (request_of c r)
+open_some c [] zero r e = cc
+open_some c [] (suc k) r e = cc
+open_some c (x ∷ l) zero r e = let same : x ≡ r = cc in ap (λ (y : Asked). some (request_of c y)) same
+open_some c (x ∷ l) (suc k) r e = open_some c l k r e
 
-  brought_at : (yea : Bool) → k < length (pending_in p c)
-      → brought yea ≡ length (brought_by (reply_of c yea 0 0 0) (some (request_at c p (32 * c + 4 * k))))
-  brought_at yea h = ap (λ (o : Option Request). length (brought_by (reply_of c yea 0 0 0) o)) (open_at p c k h)
+module _ (q : Queue) (c k : ℕ) (yea : Bool) where
+  abbrev pub brought : ℕ
+  brought = length (brought_by (reply_of c yea 0 0 0) (head? (drop k (open_requests c q))))
 
-  -- the request that it finds is for a channel that is not held, or for one that is
-  pub due_far : (yea : Bool) → k < length (pending_in p c) → is_beyond (request_at c p (32 * c + 4 * k)) ≡ true → bit_of yea ≡ brought yea
-  due_far yea h q = sym (brought_at yea h ∙ by yea)
-    where
-      by : (yea : Bool) → length (brought_by (reply_of c yea 0 0 0) (some (request_at c p (32 * c + 4 * k)))) ≡ bit_of yea
-      by true = rw q
-      by false = refl
+  pub due_stray : slice_get (open_in q) k ≡ None → 1 ≡ brought
+  due_stray h = sym (ap (λ (o : Option Request). length (brought_by (reply_of c yea 0 0 0) o)) (open_none c (open_in q) k h))
 
-  pub due_near : (yea : Bool) → k < length (pending_in p c) → is_beyond (request_at c p (32 * c + 4 * k)) ≡ false → 0 ≡ brought yea
-  due_near yea h q = sym (brought_at yea h ∙ by yea)
-    where
-      by : (yea : Bool) → length (brought_by (reply_of c yea 0 0 0) (some (request_at c p (32 * c + 4 * k)))) ≡ 0
-      by true = rw q
-      by false = refl
+  module _ (r : Asked) (h : slice_get (open_in q) k ≡ Some r) where
+    brought_at : brought ≡ length (brought_by (reply_of c yea 0 0 0) (some (request_of c r)))
+    brought_at = ap (λ (o : Option Request). length (brought_by (reply_of c yea 0 0 0) o)) (open_some c (open_in q) k r h)
+
+    -- the request that it finds is for a channel that is not held, or for one that is
+    pub due_far : is_beyond (request_of c r) ≡ true → bit_of yea ≡ brought
+    due_far e = sym (brought_at ∙ by yea)
+      where
+        by : (t : Bool) → length (brought_by (reply_of c t 0 0 0) (some (request_of c r))) ≡ bit_of t
+        by true = rw e
+        by false = refl
+
+    pub due_near : is_beyond (request_of c r) ≡ false → 0 ≡ brought
+    due_near e = sym (brought_at ∙ by yea)
+      where
+        by : (t : Bool) → length (brought_by (reply_of c t 0 0 0) (some (request_of c r))) ≡ 0
+        by true = rw e
+        by false = refl
 
 -- ---- what a command takes of the room, and what comes of it
 
 pub taking_none : (left : ℕ) → taking 0 left ≡ given left
 taking_none left = rw (le-ltb left 0 (omega arith)) (ap given (sub-zero left))
 
-module _ (p : List ℕ) {asks : Bool} (k c : ℕ) (yea : Bool) (left : ℕ) where
-  pub behind_request : asks ≡ true → k < 8 - length (pending_in p c) → given left ≡ left_behind p asks k c yea left
-  behind_request e h = rw (e, lt-ltb (length (pending_in p c) + k) 8 (omega arith))
+module _ (rs : List Request) {asks : Bool} (k c : ℕ) (yea : Bool) (left : ℕ) where
+  pub behind_request : asks ≡ true → k < 8 - length rs → given left ≡ left_behind rs asks k c yea left
+  behind_request e h = rw (e, lt-ltb (length rs + k) 8 (omega arith))
 
-  pub behind_full : asks ≡ true → 8 - length (pending_in p c) ≤ k → refused 17 ≡ left_behind p asks k c yea left
-  behind_full e h = rw (e, le-ltb (length (pending_in p c) + k) 8 (omega arith))
+  pub behind_full : asks ≡ true → 8 - length rs ≤ k → refused 17 ≡ left_behind rs asks k c yea left
+  behind_full e h = rw (e, le-ltb (length rs + k) 8 (omega arith))
 
   -- of an answer, where t tells whether an entry is due
-  module _ (t : Bool) (e : asks ≡ false) (q : bit_of t ≡ brought p c k yea) where
-    behind_by : taking (bit_of t) left ≡ left_behind p asks k c yea left
+  module _ (t : Bool) (e : asks ≡ false) (q : bit_of t ≡ length (brought_by (reply_of c yea 0 0 0) (head? (drop k rs)))) where
+    behind_by : taking (bit_of t) left ≡ left_behind rs asks k c yea left
     behind_by = rw e (ap (λ (n : ℕ). taking n left) q)
 
-    pub behind_entry : t ≡ true → taking 1 left ≡ left_behind p asks k c yea left
+    pub behind_entry : t ≡ true → taking 1 left ≡ left_behind rs asks k c yea left
     behind_entry d = ap (λ (b : Bool). taking (bit_of b) left) (sym d) ∙ behind_by
 
-    pub behind_clear : t ≡ false → given left ≡ left_behind p asks k c yea left
+    pub behind_clear : t ≡ false → given left ≡ left_behind rs asks k c yea left
     behind_clear d = sym (taking_none left) ∙ ap (λ (b : Bool). taking (bit_of b) left) (sym d) ∙ behind_by
 
 abbrev left_in : Book → ℕ
@@ -139,7 +135,7 @@ left_in b = length b.list / 4 - b.listed
 abbrev more : List ℕ → ℕ → List ℕ
 more seen c = set seen c (get_or seen c 0 + 1)
 
-module _ (asks : ℕ → Bool) (p : List ℕ) where
+module _ (asks : ℕ → Bool) (p : List Queue) where
   -- what is known of the open requests, where so many commands of each CID went before
   record Kept (pending : ℕ → List Request) (seen : List ℕ) : Type 0 where
     asked_more : (c : ℕ) → asks c ≡ true → length (pending c) ≡ length (pending_in p c) + get_or seen c 0
@@ -244,7 +240,7 @@ module _ (asks : ℕ → Bool) (p : List ℕ) where
 
   module _ (b : Book) {seen : List ℕ} (left : ℕ) (k : Kept b.pending seen) (r : left ≡ left_in b) where
     request_outcome : (q : Request) → asks q.cid ≡ true → q.cid < length seen → (yea : Bool)
-        → Outcome (left_behind p true (get_or seen q.cid 0) q.cid yea left) (asked q b) (more seen q.cid)
+        → Outcome (left_behind (pending_in p q.cid) true (get_or seen q.cid 0) q.cid yea left) (asked q b) (more seen q.cid)
     request_outcome q w h yea =
         subst (λ (m : ℕ). Outcome (cond (ltb m 8) (given left) (refused 17)) (asked q b) (more seen q.cid)) (k.asked_more q.cid w)
         (by (ltb (length (b.pending q.cid)) 8))
@@ -255,7 +251,7 @@ module _ (asks : ℕ → Bool) (p : List ℕ) where
         by false = outcome_full
 
     answer_outcome : (a : Reply) → asks a.cid ≡ false → a.cid < length seen
-        → Outcome (left_behind p false (get_or seen a.cid 0) a.cid a.agrees left) (answering a (head? (b.pending a.cid)) b)
+        → Outcome (left_behind (pending_in p a.cid) false (get_or seen a.cid 0) a.cid a.agrees left) (answering a (head? (b.pending a.cid)) b)
         (more seen a.cid)
     answer_outcome a w h =
         subst (λ (l : List Request). Outcome (due (head? l)) (answering a (head? (b.pending a.cid)) b) (more seen a.cid))
@@ -294,9 +290,9 @@ none_seen c = by (dec_lt c 16)
     by (yes h) = get_or-replicate 16 c 0 0 h
     by (no h) = get_or-eq_default unseen 0 {n = c} (omega arith)
 
-module _ (rules : Rules) (s p : List ℕ) (listed room : ℕ) where
+module _ (rules : Rules) (s : List ℕ) (p : List Queue) (listed room : ℕ) where
   -- the events from an offset on, in this book, are refused as all events are
-  record Stage (n f lines : ℕ) (h l : List ℕ) (at : ℕ) (seen : List ℕ) (left : ℕ) : Type 0 where
+  record Stage (n f lines : ℕ) (h : List Parents) (l : List ℕ) (at : ℕ) (seen : List ℕ) (left : ℕ) : Type 0 where
     book : Book
     same : ended (steps (events_from rules n f s 0) (book_in lines listed p h l)) ≡ ended (steps (events_from rules n f s at) book)
     kept : Kept (is_request rules) p book.pending seen
@@ -307,7 +303,7 @@ module _ (rules : Rules) (s p : List ℕ) (listed room : ℕ) where
     pub within : at ≤ length s
     pub sixteen : length seen ≡ 16
     pub few : (c : ℕ) → get_or seen c 0 ≤ at
-    stage : (n f lines : ℕ) (h l : List ℕ) → length l / 4 ≡ room → Stage n f lines h l at seen left
+    stage : (n f lines : ℕ) (h : List Parents) (l : List ℕ) → length l / 4 ≡ room → Stage n f lines h l at seen left
 
   pub judged_none : {left : ℕ} → left ≡ room - listed → Judged 0 unseen left
   judged_none {left} e = record {
@@ -350,7 +346,7 @@ module _ (rules : Rules) (s p : List ℕ) (listed room : ℕ) where
       payload = take len (drop (at + 1) s)
 
       abbrev behind : Answer ℕ
-      behind = left_behind p (is_request rules cid) (get_or seen cid 0) cid (agrees_with cid payload) left
+      behind = left_behind (pending_in p cid) (is_request rules cid) (get_or seen cid 0) cid (agrees_with cid payload) left
 
       outcome : (n f : ℕ) (b : Book) → Kept (is_request rules) p b.pending seen → left ≡ left_in b
           → Outcome (is_request rules) p behind (step (event_of rules n f (placed at cid payload)) b) (more seen cid)
@@ -366,7 +362,7 @@ module _ (rules : Rules) (s p : List ℕ) (listed room : ℕ) where
           replying = record { at = place n f at; cid = cid; agrees = agrees_with cid payload }
 
           by : (t : Bool) → is_request rules cid ≡ t
-              → Outcome (is_request rules) p (left_behind p t (get_or seen cid 0) cid (agrees_with cid payload) left)
+              → Outcome (is_request rules) p (left_behind (pending_in p cid) t (get_or seen cid 0) cid (agrees_with cid payload) left)
               (step (cond t (request asking) (reply replying)) b) (more seen cid)
           by true q = request_outcome (is_request rules) p b left k r asking q low (agrees_with cid payload)
           by false q = answer_outcome (is_request rules) p b left k r replying q low

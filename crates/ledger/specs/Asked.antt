@@ -1,6 +1,7 @@
 -- What is asked of a ledger, as it is answered (RULES: X11, X12, X16): a setting's parent, and an entry of the list.
 use Rattle.std.specs.Prelude.{replicate, Option as Maybe, None, Some}
 use Rattle.std.proofs.Math.Option.{Option, none, some}
+use Rattle.ledger.specs.Memory.{fresh_queue, no_parents}
 use Rattle.ledger.specs.Parents.{Shown, Note}
 use Rattle.ledger.specs.declared.Ledger.{Ledger}
 use Rattle.ledger.specs.declared.entries.Entry.{Entry}
@@ -8,7 +9,7 @@ use Rattle.ledger.specs.declared.settings.Parent.{Parent}
 
 -- a ledger before its first line
 abbrev pub fresh_ledger : Ledger
-fresh_ledger = record { lines = 0; listed = 0; pending = replicate 528 0; held = replicate 333 0 }
+fresh_ledger = record { lines = 0; listed = 0; pending = replicate 16 fresh_queue; held = replicate 37 no_parents }
 
 -- a setting's parent: where the request stands, what it says, and its mark
 abbrev pub in_hand : Option Shown → Maybe Parent

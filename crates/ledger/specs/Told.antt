@@ -1,8 +1,7 @@
 -- What the answers of this crate tell, in the numbers and values of docs/RULES.md (M11).
 use Rattle.std.specs.Prelude.{ℕ, Result, Ok, Err}
-use Rattle.table.specs.Answers.{Answer, given, refused, Consent, accepted}
+use Rattle.table.specs.Answers.{refused, Consent, accepted}
 use Rattle.table.specs.Refusals.{number_of}
-use Rattle.table.specs.declared.refusal.Refusal.{Refusal}
 use Rattle.ledger.specs.declared.exchange.BadLine.{BadLine}
 
 -- a replay's verdict
@@ -14,16 +13,3 @@ told_replay (Err e) = refused (number_of e.reason)
 abbrev pub told_line : Result Unit BadLine → ℕ
 told_line (Ok x) = 0
 told_line (Err e) = e.line
-
--- ---- what only private functions answer: a line's verdict, the offset behind it, and the room that is left
-
-abbrev pub told_verdict : Result Unit Refusal → Consent
-told_verdict (Ok x) = accepted
-told_verdict (Err r) = refused (number_of r)
-
-abbrev pub told_next : Result ℕ Refusal → Answer ℕ
-told_next (Ok n) = given n
-told_next (Err r) = refused (number_of r)
-
-abbrev pub told_left : Result ℕ Refusal → Answer ℕ
-told_left r = told_next r

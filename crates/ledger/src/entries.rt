@@ -1,5 +1,5 @@
 // The list of a ledger: four numbers to an entry.
-ghost use Rattle.std.specs.Prelude.{◌≡◌, get_or};
+ghost use Rattle.std.specs.Prelude.{◌≡◌};
 ghost use Rattle.ledger.specs.Asked.{note_of};
 ghost use Rattle.ledger.specs.Memory.{note_at};
 
@@ -10,13 +10,6 @@ pub struct Entry {
     pub line: u64,
     pub frame: u64,
     pub offset: u64,
-}
-
-// The number at a place, and 0 past the end.
-pub(crate) fn number_at(list: &[u64], i: usize) -> u64
-    ensures { result ≡ get_or list.now i 0 }
-{
-    if i < list.len() { list[i] } else { 0 }
 }
 
 // The entry with this index, and zeros past the end.

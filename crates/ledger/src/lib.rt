@@ -15,14 +15,15 @@ ghost use Rattle.ledger.specs.Asked.{fresh_ledger};
 
 pub use entries::{Entry, entry_at};
 pub use exchange::{BadLine, replay_trace};
+use memory::{CIDS, Parents, Queue, ROWS};
 pub use settings::Parent;
 
 #[derive(Clone, Copy)]
 pub struct Ledger {
     pub lines: u64,
     pub listed: usize,
-    pending: [u64; 528],
-    held: [u64; 333],
+    pending: [Queue; CIDS],
+    held: [Parents; ROWS],
 }
 
 impl Ledger {
@@ -33,8 +34,8 @@ impl Ledger {
         Ledger {
             lines: 0,
             listed: 0,
-            pending: [0; 528],
-            held: [0; 333],
+            pending: [Queue::default(); CIDS],
+            held: [Parents::default(); ROWS],
         }
     }
 }

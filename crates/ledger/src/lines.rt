@@ -7,6 +7,9 @@ ghost use Rattle.ledger.specs.Working.{front_at};
 
 use table::Direction;
 
+// The most bytes of a stream.
+pub(crate) const MOST_BYTES: usize = 255;
+
 // The value of the number in front, and the offset behind it.
 #[derive(Clone, Copy)]
 struct Number {
@@ -52,18 +55,25 @@ fn digits_at(text: &[u8], at: usize) -> Number
         return Number { value: 0, next };
     }
     let mut value: u64 = 0;
-    let mut i = at;
-    while i < text.len() {
-        let Some(d) = digit(text[i]) else {
-            break;
+    for (n, c) in text[at..].iter().enumerate() {
+        let Some(d) = digit(*c) else {
+            return Number {
+                value,
+                next: at + n,
+            };
         };
         if 429_496_729 < value {
-            break;
+            return Number {
+                value,
+                next: at + n,
+            };
         }
         value = value * 10 + d;
-        i += 1;
     }
-    Number { value, next: i }
+    Number {
+        value,
+        next: text.len(),
+    }
 }
 
 // The number at an offset; none where no digit stands.
@@ -135,12 +145,11 @@ fn byte_of(high: u8, low: u8) -> u8
 fn room_in(len: usize) -> usize
     ensures { result ≡ min (len / 2) 255 }
 {
-    let half = len / 2;
-    if half < 255 { half } else { 255 }
+    (len / 2).min(MOST_BYTES)
 }
 
 // How many pairs of digits stand in front. Each is put into the memory as a byte.
-fn pairs(text: &[u8], at: usize, stream: &mut [u8; 255]) -> usize
+fn pairs(text: &[u8], at: usize, stream: &mut [u8; MOST_BYTES]) -> usize
     requires { at ≤ length text.now }
     ensures value { result ≡ length (pairs_in 255 (drop at text.now)) }
     ensures stream_after { take result stream.new ≡ pairs_in 255 (drop at text.now) }
@@ -183,7 +192,7 @@ fn closed_at(text: &[u8], end: usize, len: usize) -> Option<Field>
 }
 
 // The stream, in hex or a dash for no bytes, and the newline behind it.
-fn field_at(text: &[u8], at: usize, stream: &mut [u8; 255]) -> Option<Field>
+fn field_at(text: &[u8], at: usize, stream: &mut [u8; MOST_BYTES]) -> Option<Field>
     requires { at ≤ length text.now }
     ensures stream_after { field_told result stream.new ≡ from at (field_in (drop at text.now)) }
     ensures len_bound { IfSome result (λ f. f.len ≤ 255) }
@@ -206,7 +215,7 @@ fn field_at(text: &[u8], at: usize, stream: &mut [u8; 255]) -> Option<Field>
 }
 
 // The line at an offset. Its stream is put into the memory; where no line has the form there, nothing is said of the memory.
-pub(crate) fn line_at(text: &[u8], at: usize, stream: &mut [u8; 255]) -> Option<LineAt>
+pub(crate) fn line_at(text: &[u8], at: usize, stream: &mut [u8; MOST_BYTES]) -> Option<LineAt>
     requires { at < length text.now }
     ensures stream_after { line_told result stream.new ≡ front_at text.now at }
     ensures len_bound { IfSome result (λ l. l.len ≤ 255) }

@@ -13,7 +13,7 @@ pub returns-in-Err : goal.returns-in-Err
 returns-in-Err c =
     let l = c.loop-at in
     let k = number_of c.in-Err.reason in
-    let after = book_of c.take_line.new.ledger c.take_line.new.list in
+    let after = book_of c.take_line.new.self c.take_line.new.list in
     ap (λ (n : ℕ). (refused k, n, after)) c.number_after-line.ensures
     ∙ line_stops c.args.text.now _ l.invariant k after (search rules) c.in-Err.ensures
 

@@ -11,8 +11,8 @@ use Rattle.ledger.specs.Events.{following}
 use Rattle.ledger.specs.Trace.{TraceLine}
 use Rattle.ledger.specs.Working.{book_in, events_from, front_at}
 use Rattle.ledger.proofs.Following.{line_refused, line_taken}
-use Rattle.ledger.proofs.exchange.take_line.Goals as goal
-use Rattle.ledger.proofs.exchange.take_line.Goals.{In_ok-found}
+use Rattle.ledger.proofs.Ledger.take_line.Goals as goal
+use Rattle.ledger.proofs.Ledger.take_line.Goals.{In_ok-found}
 
 module _ (c : In_ok-found) where
   abbrev line : TraceLine
@@ -26,7 +26,7 @@ module _ (c : In_ok-found) where
 pub returns-in_err-judge : goal.returns-in_err-judge
 returns-in_err-judge c =
     let a = c.args in
-    let l = a.ledger.now in
+    let l = a.self.now in
     let f = c.in_ok-found.found in
     let buffer = c.line_at.new.stream in
     let p = err_from_is_err_and c.from_residual-in_err-judge.result c.from_residual-in_err-judge.ensures.1 in
@@ -38,11 +38,11 @@ returns-in_err-judge c =
 pub returns : goal.returns
 returns c =
     let a = c.args in
-    let l = a.ledger.now in
+    let l = a.self.now in
     let f = c.in_ok-found.found in
     let buffer = c.line_at.new.stream in
     let x = line (goal.at.returns c).In_ok-found in
     line_taken a.text.now a.at l.lines l.listed l.pending l.held a.list.now x f.next c.new-rules.result
     (found (goal.at.returns c).In_ok-found) c.new-rules.ensures
-    (c.apply-count.ensures
-    ∙ ap (λ (k : ℕ). steps (events_from c.new-rules.result k x.frame x.stream 0) (book_in k l.listed l.pending l.held a.list.now)) c.number_after-number.ensures)
+    (c.apply.ensures
+    ∙ ap (λ (k : ℕ). steps (events_from c.new-rules.result k x.frame x.stream 0) (book_in k l.listed l.pending l.held a.list.now)) c.number_after-self.ensures)
