@@ -124,7 +124,7 @@ pub type UplinkMacCommandCreator = MacCommandCreator<UplinkKind>;
 pub type DownlinkMacCommandCreator = MacCommandCreator<DownlinkKind>;
 
 impl<K: CommandKind> MacCommandCreator<K> {
-    // The creator's command, with its image.
+    // The creator's command, with its image. (`From` for every creator would overlap the library's impl for a type itself.)
     #[tactic(auto, using(crate::proofs::Padded::in_room))]
     pub fn of<const N: usize, C: Creator<N, Kind = K>>(creator: C) -> Self
         ensures { told_creator K.command result ≡ beside C.command (C.image creator) }
