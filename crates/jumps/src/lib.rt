@@ -4,5 +4,5 @@
 pub mod entries;
 pub mod jump;
 
-pub use entries::{EntriesAnswer, make_entries};
-pub use jump::{JumpAnswer, jump_to};
+pub use entries::make_entries;
+pub use jump::{Spot, jump_to};
