@@ -9,19 +9,20 @@ use lib.Dec.{ltb, eqb}
 use lib.ListN.{length}
 use borrow.Author.Tests.{lt-ltb, le-ltb, ltb-true, eqb-true}
 use denote.Ref.{Bor}
+use Rattle.std.specs.Prelude.{Result}
+use Rattle.std.specs.Prelude as Std
 use Rattle.table.specs.Answers.{Consent, refused, accepted}
 use Rattle.table.specs.Told.{told_verdict}
-use Rattle.table.specs.declared.refusal.Verdict.{Verdict}
+use Rattle.table.specs.declared.refusal.Refusal.{Refusal}
 use Rattle.walk.specs.Chooser.{non_empty, is_none, is_zero, without_port, too_long, in_payload, in_both, verdict_of, by_verdict}
 use Rattle.walk.specs.Part.{shown}
 use Rattle.walk.specs.Told.{told_port}
-use Rattle.walk.specs.declared.chooser.Port.{Port}
 use Rattle.walk.proofs.chooser.choose.Reads as choose
 use Rattle.walk.proofs.chooser.choose_verdict.Reads as choose_verdict
 use Rattle.claims.specs.Choosing.{WithoutPort, InPayload, RightVerdict, Chosen, Chooser}
 use Rattle.claims.specs.Outcomes.{Gives}
 
-module _ (fopts payload : Bor (List ℕ)) (port : Port) where
+module _ (fopts payload : Bor (List ℕ)) (port : Std.Option ℕ) where
   -- ---- the tests of the definition, by what they say
 
   without : WithoutPort payload port → without_port (told_port port) payload.now ≡ true
@@ -80,7 +81,7 @@ module _ (fopts payload : Bor (List ℕ)) (port : Port) where
       by true e false f = both true false e f
       by false e n f = both false n e f
 
-  judged : (v : Verdict) → Gives choose_verdict.Post (fopts, (payload, (port, tt))) v → RightVerdict fopts payload port v
+  judged : (v : Result Unit Refusal) → Gives choose_verdict.Post (fopts, (payload, (port, tt))) v → RightVerdict fopts payload port v
   judged v g = record {
     without_port = λ w. g.1.1 ∙ tests true (too_long fopts.now) (in_both (told_port port) fopts.now payload.now) (without w) refl refl;
     too_long = λ w l. g.1.1 ∙ tests false true (in_both (told_port port) fopts.now payload.now) (with_port w) (lt-ltb 15 (length fopts.now) l) refl;
@@ -89,7 +90,7 @@ module _ (fopts payload : Bor (List ℕ)) (port : Port) where
     accepts = λ w l i. g.1.1 ∙ tests false false false (with_port w) (le-ltb 15 (length fopts.now) l) (not_both i);
   }
 
-  part : (v : Verdict) (r : Bor (List ℕ)) → Gives choose_verdict.Post (fopts, (payload, (port, tt))) v → Gives choose.Post (fopts, (payload, (port, tt))) r
+  part : (v : Result Unit Refusal) (r : Bor (List ℕ)) → Gives choose_verdict.Post (fopts, (payload, (port, tt))) v → Gives choose.Post (fopts, (payload, (port, tt))) r
       → Chosen fopts payload port v r
   part v r g q = record {
     from_payload = λ a i. at accepted a ∙ ap (λ (b : Bool). cond b (shown payload) (shown fopts)) (there i);

@@ -212,4 +212,4 @@ one_owner rules stream = record {
 }
 
 pub next_is_step : NextIsStep
-next_is_step it q r κs exit a g = step_tells (ap (λ x. x.0) (next_says it q κs exit a) ∙ sym g.1.1)
+next_is_step it q r it' a g = step_tells (ap (λ x. x.0) (next_says it q it' a) ∙ sym g.1.1)
