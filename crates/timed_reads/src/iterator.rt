@@ -13,16 +13,7 @@ use walk::Step;
 fn is_command(found: Step) -> u64
     ensures { result ≡ is_command (told_step found) }
 {
-    match found {
-        Step::Command {
-            cid: _,
-            len: _,
-            next: _,
-        } => 1,
-        Step::End => 0,
-        Step::Stop { reason: _, at: _ } => 0,
-        Step::Refused(_) => 0,
-    }
+    u64::from(matches!(found, Step::Command { .. }))
 }
 
 // Makes an iterator, calls its `next` n times and once more, and answers whether the last call gave a command.
