@@ -1,12 +1,6 @@
 -- Any two outcomes that a public function's contract admits are equal. Assumes nothing.
 use mathlib.Core.Path.{sym, ap, ap₂, ◌∙◌}
-use denote.Param.Laws.{Laws, IsCopy}
-use denote.RattleType.{RattleType}
-use mir.Syntax.{Dict}
-use Rattle.std.specs.declared.clone.Clone as Clone
 use Rattle.bits.proofs.Fixed.{Fixed, FixedWith}
-use Rattle.creators.specs.declared.kinds.CommandKind as CommandKind
-use Rattle.build.specs.declared.list.Holds as Holds
 use Rattle.build.proofs.Told.{judged_tells, build_tells, handed_tells}
 use Rattle.build.proofs.record.Record.new.Reads as new
 use Rattle.build.proofs.record.Record.none.Reads as none
@@ -17,7 +11,7 @@ use Rattle.build.proofs.record.Record.judge.Reads as judge
 use Rattle.build.proofs.record.Record.write.Reads as write
 use Rattle.build.proofs.record.Record.pack.Reads as pack
 use Rattle.build.proofs.handed.record_at.Reads as record_at
-use Rattle.build.proofs.list.RecordHolds.record.Reads as record_held
+use Rattle.build.proofs.record.RecordHolds.record.Reads as record_held
 use Rattle.build.proofs.packed.ArrayU88Holds.record.Reads as slot_held
 use Rattle.build.proofs.list.list_len.Reads as list_len
 use Rattle.build.proofs.list.build_list.Reads as build_list
@@ -61,16 +55,12 @@ record_held_one _ _ _ _ _ _ p q = p ∙ sym q
 slot_held_one : Fixed slot_held.Post
 slot_held_one _ _ _ _ _ _ p q = p ∙ sym q
 
--- at every type that holds records
-module _ (T : RattleType) (laws : Laws T) (holds : Holds.Ghosts T.Denot) (d : Dict) where
-  list_len_one : Fixed (list_len.Post T laws holds d)
-  list_len_one _ _ _ _ _ _ p q = build_tells (p.0 ∙ sym q.0)
+list_len_one : (A : _) (laws : _) (holds : _) (holds-dict : _) → Fixed (list_len.Post A laws holds holds-dict)
+list_len_one A laws holds holds-dict _ _ _ _ _ _ p q = build_tells (p.0 ∙ sym q.0)
 
-  build_list_one : FixedWith (λ s. s.1.1.1.0.now) (build_list.Post T laws holds d)
-  build_list_one _ _ _ _ _ _ p q =
-      ap₂ (λ r o. (r, o)) (build_tells (ap (λ x. x.0) (p ∙ sym q))) (ap (λ x. x.1) (p ∙ sym q))
+build_list_one : (A : _) (laws : _) (holds : _) (holds-dict : _) → FixedWith (λ s. s.1.1.1.0.now) (build_list.Post A laws holds holds-dict)
+build_list_one A laws holds holds-dict _ _ _ _ _ _ p q =
+    ap₂ (λ r o. (r, o)) (build_tells (ap (λ x. x.0) (p ∙ sym q))) (ap (λ x. x.1) (p ∙ sym q))
 
--- at every kind of commands
-module _ (K : RattleType) (laws : Laws K) (copy : IsCopy K) (kind : CommandKind.Ghosts K.Denot) (d : Dict) (clone : Clone.Ghosts K.Denot) (e : Dict) where
-  of_creator_one : Fixed (of_creator.Post K laws copy kind d clone e)
-  of_creator_one _ _ _ _ _ _ p q = p ∙ sym q
+of_creator_one : (A : _) (laws : _) (copies : _) (kinds : _) (kinds-dict : _) (clones : _) (clones-dict : _) → Fixed (of_creator.Post A laws copies kinds kinds-dict clones clones-dict)
+of_creator_one A laws copies kinds kinds-dict clones clones-dict _ _ _ _ _ _ p q = p ∙ sym q

@@ -9,7 +9,8 @@ use crate::record::Record;
 use table::Rules;
 use walk::{Step, step_at};
 
-// What stands at an offset of a stream, and the record of it where it is a command. Else the record is that of no command.
+// What stands at an offset of a stream, and the record of it where it is a command. Else the record is that of no command. The two stand side by
+// side, and no `Option` has the record, since the definition of what is handed out, `handed_at`, and the claims on it speak of both.
 #[derive(Clone, Copy)]
 pub struct Handed {
     pub step: Step,

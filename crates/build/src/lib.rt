@@ -8,6 +8,6 @@ pub mod record;
 pub mod sources;
 
 pub use handed::{Handed, record_at};
-pub use list::{BuildError, Holds, build_list, list_len};
+pub use list::{BuildError, build_list, list_len};
 pub use packed::{build_mac_commands, mac_commands_len};
-pub use record::Record;
+pub use record::{Holds, Record};

@@ -4,10 +4,9 @@ ghost use Rattle.table.specs.Table.{length_of};
 ghost use Rattle.walk.specs.Walk.{encode};
 ghost use Rattle.build.specs.Build.{total_of, build_of};
 ghost use Rattle.build.specs.Records.{recs_held, cmd_of, listed};
-ghost use Rattle.build.specs.declared.record.Record.{Record};
 ghost use Rattle.build.specs.Told.{told_build};
 
-use crate::record::Record;
+use crate::record::Holds;
 use table::{Refusal, Rules};
 
 // Why a list is refused: the record at this place, counted from 0, is at fault; or the list as a whole, or the room for it.
@@ -15,22 +14,6 @@ use table::{Refusal, Rules};
 pub enum BuildError {
     At { reason: Refusal, place: usize },
     Whole(Refusal),
-}
-
-// A value that holds one record.
-pub trait Holds {
-    ghost held: { Self → Record };
-
-    fn record(&self) -> Record
-        ensures { result ≡ held self.now };
-}
-
-impl Holds for Record {
-    ghost held = { λ r. r };
-
-    fn record(&self) -> Record {
-        *self
-    }
 }
 
 // The most records of a list.
@@ -47,6 +30,7 @@ pub fn list_len<T: Holds>(rules: Rules, records: &[T], cut_off: bool) -> Result<
     }
     let mut sum = 0;
     for (place, record) in records.iter().enumerate() {
+        // A `match`, and no `map_err` and `?`: of a closure in a generic function the proof has no plain fact (tried).
         match record.record().judge(rules) {
             Ok(size) => sum += size,
             Err(reason) => return Err(BuildError::At { reason, place }),

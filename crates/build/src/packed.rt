@@ -5,8 +5,8 @@ ghost use Rattle.build.specs.Build.{total_of, build_of};
 ghost use Rattle.build.specs.Records.{slots_of};
 ghost use Rattle.build.specs.Told.{told_build};
 
-use crate::list::{BuildError, Holds, build_list, list_len};
-use crate::record::Record;
+use crate::list::{BuildError, build_list, list_len};
+use crate::record::{Holds, Record};
 use table::Rules;
 
 // A slot: CID, length, five payload bytes, and one that is ignored.

@@ -111,6 +111,24 @@ impl Record {
     }
 }
 
+// A value that holds one record.
+pub trait Holds {
+    ghost use Rattle.build.specs.declared.record.Record.{Record};
+
+    ghost held: { Self → Record };
+
+    fn record(&self) -> Record
+        ensures { result ≡ held self.now };
+}
+
+impl Holds for Record {
+    ghost held = { λ r. r };
+
+    fn record(&self) -> Record {
+        *self
+    }
+}
+
 // A length in one byte, 255 where it has no room there.
 fn len_byte(len: usize) -> u8
     ensures { result ≡ len_byte len }
