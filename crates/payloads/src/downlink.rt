@@ -30,6 +30,7 @@ pub enum DownlinkMacCommand {
     DeviceTimeAns(DeviceTimeAnsPayload),
 }
 
+// UplinkMacCommand has the same four methods: a trait of both would be one name more, and would save none of these arms.
 impl DownlinkMacCommand {
     pub fn len(self) -> usize
         ensures { result ≡ (downlink_entry self).size }

@@ -30,6 +30,7 @@ pub enum UplinkMacCommand {
     DeviceTimeReq(DeviceTimeReqPayload),
 }
 
+// DownlinkMacCommand has the same four methods: a trait of both would be one name more, and would save none of these arms.
 impl UplinkMacCommand {
     pub fn len(self) -> usize
         ensures { result ≡ (uplink_entry self).size }
