@@ -12,7 +12,7 @@ pub(crate) fn nth_step(rules: Rules, stream: &[u8], n: usize) -> Step {
 }
 
 fn record_of(slot: &[u8]) -> Record {
-    let [cid, len, a, b, c, d, e] = first(slot);
+    let [cid, len, a, b, c, d, e] = first::<7>(slot);
     Record::new(cid, usize::from(len), [a, b, c, d, e])
 }
 

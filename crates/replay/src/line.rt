@@ -11,8 +11,7 @@ pub(crate) struct Line {
     // How many there were at the end of the input, and of the answer.
     input: usize,
     answer: usize,
-    comment: bool,
-    // Whether something stands where a line has no place for it.
+    // Whether something stands where a line has no place for it. No field of its own: a line that begins so may still be a comment.
     bad: bool,
 }
 
@@ -25,9 +24,10 @@ pub(crate) enum Asked {
     Unread,
 }
 
-// The field that is being read.
+// The field that is being read, or that the line is a comment.
 #[derive(Clone, Copy, PartialEq, Eq)]
 enum Field {
+    Comment,
     Entry,
     Class,
     Input,
@@ -67,7 +67,6 @@ impl Line {
             end: 0,
             input: 0,
             answer: 0,
-            comment: false,
             bad: false,
         }
     }
@@ -99,7 +98,7 @@ impl Line {
             Field::Class => self.at_field(Field::Input, self.end == 2),
             Field::Input => self.behind_input(),
             Field::Answer => self.behind_answer(),
-            Field::Rust => self.spoilt(),
+            Field::Rust | Field::Comment => self.spoilt(),
         }
     }
 
@@ -137,13 +136,13 @@ impl Line {
     }
 
     fn as_comment(mut self) -> Line {
-        self.comment = true;
+        self.field = Field::Comment;
         self
     }
 
     // Whether the rest of the line is passed over: what the Rust did instead is not compared.
     fn passes(self, c: u8) -> bool {
-        self.comment || self.field == Field::Rust && c != b' ' || c == b'-'
+        self.field == Field::Comment || self.field == Field::Rust && c != b' ' || c == b'-'
     }
 
     // One byte more of the line.
@@ -163,13 +162,9 @@ impl Line {
     // At the line's end.
     pub(crate) fn asked(self) -> Asked {
         let input = self.input;
-        if self.comment {
-            return Asked::Comment;
-        }
-        if self.bad || self.digit.is_some() {
-            return Asked::Unread;
-        }
         match self.field {
+            Field::Comment => Asked::Comment,
+            _ if self.bad || self.digit.is_some() => Asked::Unread,
             Field::Answer => Asked::Case {
                 input,
                 answer: self.end,
@@ -184,6 +179,6 @@ impl Line {
 
     // Whether the line has anything yet.
     pub(crate) fn is_begun(self) -> bool {
-        self.comment || self.bad || !self.is_new()
+        self.bad || !self.is_new()
     }
 }

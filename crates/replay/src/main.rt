@@ -3,11 +3,9 @@
 #![tactic(auto)]
 
 mod answer;
-mod creators_down;
-mod creators_up;
+mod creator_types;
 mod entry;
 mod fronts;
-mod image;
 mod line;
 mod lists;
 mod masks;

@@ -1,4 +1,6 @@
 // The arguments in a case's input: numbers stand high byte first. A byte past the input's end reads as 0.
+ghost use Rattle.std.specs.Prelude.{◌<◌};
+
 use fields::{ChannelMask2, Frequency};
 use table::{Direction, Rules};
 
@@ -25,7 +27,9 @@ pub(crate) fn from(s: &[u8], i: usize) -> &[u8] {
 }
 
 // A number in two bytes.
-pub(crate) fn two(s: &[u8]) -> usize {
+pub(crate) fn two(s: &[u8]) -> usize
+    ensures { result < 65536 }
+{
     usize::from(u16::from_be_bytes(first(s)))
 }
 

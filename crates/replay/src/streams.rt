@@ -103,16 +103,13 @@ fn iterator(rules: Rules, input: &[u8], out: &mut [u8]) -> usize {
 
 // ---- The command at the stream's front, as a record.
 
-fn down_record(stream: &[u8]) -> Answer {
-    match walk::downlink_at(stream, 0) {
-        CommandStep::Command(command, _) => Answer::new().record(Record::of_downlink(command)),
-        _ => Answer::new(),
-    }
-}
-
-fn up_record(stream: &[u8]) -> Answer {
-    match walk::uplink_at(stream, 0) {
-        CommandStep::Command(command, _) => Answer::new().record(Record::of_uplink(command)),
+fn told_record<C>(found: CommandStep<C>) -> Answer
+where
+    C: Drop,
+    Record: From<C>,
+{
+    match found {
+        CommandStep::Command(command, _) => Answer::new().record(Record::from(command)),
         _ => Answer::new(),
     }
 }
@@ -125,8 +122,8 @@ pub(crate) fn answer(which: u8, input: &[u8], out: &mut [u8]) -> usize {
         1 => whole(up, input, out),
         2 => iterator(down, input, out),
         3 => iterator(up, input, out),
-        4 => down_record(input).put(out, 0),
-        5 => up_record(input).put(out, 0),
+        4 => told_record(walk::downlink_at(input, 0)).put(out, 0),
+        5 => told_record(walk::uplink_at(input, 0)).put(out, 0),
         _ => 0,
     }
 }

@@ -3,7 +3,7 @@ use Rattle.std.proofs.Common.{sym, subst}
 use mathlib.Core.Bool.{not}
 use lib.Dec.{T}
 use lib.Ieee.{Float, is_nan}
-use Rattle.replay.proofs.payloads_down.max_duty_cycle_bits.Goals as goal
+use Rattle.replay.proofs.payload_types.max_duty_cycle_bits.Goals as goal
 
 pub float_to_bits-result : goal.float_to_bits-result
 unfolding is_nan
