@@ -67,7 +67,7 @@ fn room_for(len: usize, left: usize) -> Result<(), Refusal>
     }
 }
 
-#[tactic(auto, using(crate::proofs::Steps::found_past, crate::proofs::Steps::found_end, crate::proofs::Steps::found_no_room))]
+#[tactic(auto, using(crate::proofs::Steps::found_past, crate::proofs::Steps::found_end, crate::proofs::Steps::found_read, crate::proofs::Steps::found_no_room))]
 fn command_at<C: Sent>(stream: &[u8], at: usize) -> CommandStep<C>
     ensures { told_command_step C.cmd result ≡ found_at C.rule stream.now at }
 {

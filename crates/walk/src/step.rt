@@ -20,7 +20,7 @@ pub enum Step {
     Refused(Refusal),
 }
 
-#[tactic(auto, using(crate::proofs::Steps::step_past, crate::proofs::Steps::step_end, crate::proofs::Steps::step_unknown))]
+#[tactic(auto, using(crate::proofs::Steps::step_past, crate::proofs::Steps::step_end, crate::proofs::Steps::step_by))]
 pub fn step_at(rules: Rules, stream: &[u8], at: usize) -> Step
     ensures { told_step result ≡ step_at (length_of rules) stream.now at }
 {

@@ -25,7 +25,7 @@ pub struct WalkEnd {
 }
 
 // The walk from an offset on, step by step.
-#[tactic(auto, using(crate::proofs::Steps::step_on, crate::proofs::Steps::leads_behind, crate::proofs::Steps::leads_on))]
+#[tactic(auto, using(crate::proofs::Steps::step_on, crate::proofs::Steps::tally_step))]
 pub fn walk_from(rules: Rules, stream: &[u8], from: usize) -> WalkEnd
     ensures { told_walk result ≡ tally_from (length_of rules) stream.now from }
 {
