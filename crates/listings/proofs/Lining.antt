@@ -10,6 +10,7 @@ use lib.Dec.{eqb, leb}
 use lib.ListN.{length, get_or, length-append, drop, length-take, length-drop}
 use lib.Seq.{length-take-le}
 use lib.Text.{eqt}
+use Rattle.std.proofs.lemmas.Bool.Decides.{nat_tests}
 use borrow.Author.Tests.{eqb-true, leb-true}
 use Rattle.table.specs.declared.rules.Direction.{Direction}
 use Rattle.table.specs.declared.rules.Direction.TheVariants.{Down, Up}
@@ -186,11 +187,7 @@ behind_few true body = omega (arith, counted_long (channels body) refl, decimal_
 behind_few false body = omega arith
 
 pub payload_few : (len : ℕ) → len ≤ 5 → cond (eqb len 0) 1 (2 * len) ≤ 10
-payload_few len h = by (eqb len 0)
-  where
-    by : (b : Bool) → cond b 1 (2 * len) ≤ 10
-    by true = omega arith
-    by false = omega arith
+payload_few len h = grind (arith, nat_tests)
 
 -- ---- a payload's field, by whether there are bytes
 

@@ -9,6 +9,7 @@ use crate::line::{line_len, put_line, stamp_len};
 use table::{Refusal, Rules};
 use walk::{Step, step_at};
 
+#[tactic(auto, using(crate::proofs::Lining::stamp_few))]
 fn measure(rules: Rules, frame: u32, stream: &[u8], room: usize) -> Result<usize, Refusal>
     ensures { told_listing result ≡ length_within room (listing_of rules frame stream.now) }
 {
@@ -55,6 +56,7 @@ pub fn listing_len(rules: Rules, frame: u32, stream: &[u8]) -> Result<usize, Ref
 
 // Writes the listing of a stream in a frame at the front of lent memory, and answers its length. Where there is no room for all of it, nothing is
 // written.
+#[tactic(auto, using(crate::proofs::Into::into_refused, crate::proofs::Into::fits_of))]
 pub fn write_listing(
     rules: Rules,
     frame: u32,

@@ -15,10 +15,7 @@ use Rattle.text.specs.Hex.{hex_byte, hex_of}
 use Rattle.text.proofs.Decimals.{decimal_one, decimal_rest, decimal_long, decimal_some}
 use Rattle.text.proofs.Hexes.{hex_none, hex_behind, hex_long}
 
--- one byte stored, and bytes copied, where they have room
-pub one_room : (out : List ℕ) (at c : ℕ) → at < length out → written_at out at (c ∷ []) ≡ (at + 1, set out at c)
-one_room out at c h = sym (written_of (puts_one out at c h))
-
+-- bytes copied, where they have room
 pub copied : (out : List ℕ) (at n : ℕ) (bytes : List ℕ) → n ≡ at + length bytes → n ≤ length out → written_at out at bytes ≡ (n, put_mid at (n - at) out bytes)
 copied out at n bytes e h =
     sym (room out at bytes (omega arith))

@@ -2,15 +2,10 @@
 ghost use Rattle.std.specs.Prelude.{[], ◌∷◌, ◌≡◌};
 ghost use Rattle.bits.specs.Memory.{written_at};
 
-#[tactic(auto, using(bits::proofs::Memory::no_room, crate::proofs::Writing::one_room))]
 pub fn put_byte(out: &mut [u8], at: usize, byte: u8) -> usize
     ensures { (result, out.new) ≡ written_at out.old at (byte ∷ []) }
 {
-    if out.len() <= at {
-        return at;
-    }
-    out[at] = byte;
-    at + 1
+    put_bytes(out, at, &[byte])
 }
 
 #[tactic(auto, using(bits::proofs::Memory::no_room, crate::proofs::Writing::copied))]

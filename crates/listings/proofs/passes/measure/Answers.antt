@@ -8,7 +8,7 @@ use Rattle.walk.specs.Told.{told_step}
 use Rattle.walk.specs.declared.step.Step.{Step}
 use Rattle.walk.proofs.Steps.{step_on}
 use Rattle.listings.specs.Passes.{step_line}
-use Rattle.listings.proofs.Lining.{frame_long, stamp_few}
+use Rattle.listings.proofs.Lining.{frame_long}
 use Rattle.listings.proofs.Walking.{summed_over, summed_last, summed_next, step_text, rest_none}
 use Rattle.listings.proofs.passes.measure.Goals as goal
 use Rattle.listings.proofs.passes.measure.Goals.{After-line_len}
@@ -19,12 +19,6 @@ line_long : (c : After-line_len) → c.stamp_len-stamp.result + c.line_len.resul
 line_long c =
     ap₂ (λ (a b : ℕ). a + b) c.stamp_len-stamp.ensures c.line_len.ensures.value
     ∙ sym (frame_long c.args.frame (step_line c.args.rules c.args.stream.now c.loop-sum.at (told_step c.step_at-found.result)))
-
-pub overflow_add-len : goal.overflow_add-len
-overflow_add-len c =
-    let e = c.stamp_len-stamp.ensures in
-    let l = c.line_len.ensures.upper_bound in
-    omega (arith, stamp_few c.args.frame (let f = c.ranges.frame in omega arith))
 
 pub loop-sum-smaller : goal.loop-sum-smaller
 loop-sum-smaller c =
