@@ -36,7 +36,7 @@ pub trait Creator<const N: usize>: Copy + Default {
     fn len(self) -> usize
         ensures { result ≡ image_length command }
     {
-        1 + (self.kind().entry().size as usize)
+        1 + usize::from(self.kind().entry().size)
     }
 
     // six bytes hold the longest image

@@ -1,4 +1,4 @@
-// The two kinds of creators: which command it is, beside its image. The Rust has an enum of creators; here no variant holds an array.
+// The two kinds of creators: which command it is, beside its image. The Rust has an enum of creators for each direction, and so ten arms in each method of each.
 ghost use Rattle.std.specs.Prelude.{◌≡◌, ◌+◌};
 ghost use Rattle.table.specs.Table.{Command};
 ghost use Rattle.creators.specs.Apart.{uplink_kinds_apart, downlink_kinds_apart};
@@ -155,7 +155,7 @@ impl<K: CommandKind> MacCommandCreator<K> {
     pub fn len(self) -> usize
         ensures { result ≡ 1 + (told_creator K.command self).0.size }
     {
-        1 + (self.kind.entry().size as usize)
+        1 + usize::from(self.kind.entry().size)
     }
 
     pub fn build(self) -> Image
