@@ -6,7 +6,7 @@ use native.Mathlib.Numerals.{add-one}
 use native.Mathlib.Omega.{arith}
 use lib.ListN.{length, get_or, take, drop, set, take-append-drop, length-append}
 use lib.Seq.{take-suc-set, drop-set-lt, take-append_seam, length-take-le, paste, paste-suc}
-use borrow.Author.Tests.{lt-ltb, le-ltb}
+use borrow.Author.Tests.{lt-ltb}
 use Rattle.bits.specs.Memory.{over, written_at}
 use Rattle.bits.proofs.Memory.{room}
 use Rattle.build.specs.Records.{Rec, command_bytes, len_byte, packed_at}
@@ -92,7 +92,3 @@ module _ (s : List ℕ) (i : ℕ) (r : Rec) where
   pub packed_in : i < length s / 8 → over s (8 * i) (r.cid ∷ len_byte r.len ∷ r.bytes) ≡ packed_at s i r
   unfolding packed_at
   packed_in h = simp (lt-ltb i (length s / 8) h)
-
-  pub packed_out : length s / 8 ≤ i → s ≡ packed_at s i r
-  unfolding packed_at
-  packed_out h = simp (le-ltb i (length s / 8) h)

@@ -62,6 +62,7 @@ impl Record {
 
     // Writes CID and payload at an offset, and answers the offset behind them. Where there is no room for them, nothing is written,
     // and the answer is the offset itself.
+    #[tactic(auto, using(bits::proofs::Memory::no_room))]
     pub fn write(self, out: &mut [u8], at: usize) -> usize
         ensures { (result, out.new) ≡ written_at out.old at (command_bytes (held_by self)) }
     {
@@ -87,6 +88,7 @@ impl Record {
     // Writes CID and payload at an offset, among commands that fill `out`, and answers the offset behind them. Where there is room,
     // all five payload bytes are written, and the commands that follow cover those that don't count: a copy that ends with the length
     // makes the processor guess the length.
+    #[tactic(auto, using(crate::proofs::Writes::exactly_laid))]
     pub(crate) fn lay(self, out: &mut [u8], at: usize) -> usize
         requires { at + length (command_bytes (held_by self)) ≤ length out.old }
         ensures { LaidAt out.old at (length out.old) (held_by self) result out.new }
@@ -101,6 +103,7 @@ impl Record {
     }
 
     // Puts the record into slot i of packed records; the slot's eighth byte stays. Where there is no such slot, nothing is written.
+    #[tactic(auto, unfolding(crate::specs::Records::packed_at))]
     pub fn pack(self, slots: &mut [u8], i: usize)
         ensures { slots.new ≡ packed_at slots.old i (held_by self) }
     {

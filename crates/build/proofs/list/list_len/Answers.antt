@@ -9,7 +9,6 @@ use Rattle.table.specs.Refusals.{number_of}
 use Rattle.table.specs.Table.{length_of}
 use Rattle.build.specs.Records.{recs_held, Rec, held_by, judged}
 use Rattle.build.specs.Build.{refused_at}
-use Rattle.build.specs.Told.{told_judged}
 use Rattle.build.proofs.Judging.{judged_given}
 use Rattle.build.proofs.Listed.{over_most, held_in, length_held, counted_more, counted_refused, counted_cut, counted_all, all_written}
 use borrow.Author.Rules.{rules}
@@ -25,7 +24,7 @@ here g c = held_in g.T.Holds.held c.args.records.now c.loop-place.place c.index-
 pub loop-place-preserved : goal.loop-place-preserved
 loop-place-preserved g c =
     let r : Rec = held_by c.record.result in
-    let j : judged (length_of c.args.rules) r ≡ given c.in-Ok.size = sym c.judge.ensures ∙ ap told_judged c.in-Ok.is in
+    let j : judged (length_of c.args.rules) r ≡ given c.in-Ok.size = sym c.in-Ok.ensures in
     let five : c.record.result.len ≤ 5 = at_most_five c.args.rules r.cid r.len (judged_given (length_of c.args.rules) r c.in-Ok.size j).0 in
     let bytes : length c.record.result.payload ≡ 5 = search rules in
     let n = length_held g.T.Holds.held c.args.records.now in
@@ -40,7 +39,7 @@ returns-then-most-records-clause-total g c =
 pub returns-in-Err-clause-total : goal.returns-in-Err-clause-total
 returns-in-Err-clause-total g c =
     let r : Rec = held_by c.record.result in
-    let j : judged (length_of c.args.rules) r ≡ refused (number_of c.in-Err.reason) = sym c.judge.ensures ∙ ap told_judged c.in-Err.is in
+    let j : judged (length_of c.args.rules) r ≡ refused (number_of c.in-Err.reason) = sym c.in-Err.ensures in
     let n = length_held g.T.Holds.held c.args.records.now in
     counted_refused (length_of c.args.rules) (recs_held g.T.Holds.held c.args.records.now) c.args.cut_off r (omega arith) (here g (goal.at.returns-in-Err-clause-total g c).After-judge)
     c.loop-place.invariant (omega (arith, c.from-most.ensures)) j

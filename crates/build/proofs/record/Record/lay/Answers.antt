@@ -7,7 +7,7 @@ use lib.ListN.{length}
 use Rattle.bits.specs.Memory.{over}
 use Rattle.build.specs.Records.{held_by}
 use Rattle.build.proofs.AsRecords.{five_whole}
-use Rattle.build.proofs.Writes.{widely_laid, exactly_laid}
+use Rattle.build.proofs.Writes.{widely_laid}
 use borrow.Author.Rules.{rules}
 use Rattle.build.proofs.record.Record.lay.Goals as goal
 
@@ -19,8 +19,3 @@ returns-then-out-at-ge6 c =
     widely_laid a.out.now a.at (held_by a.self) (length a.out.now) _ _ five_bytes (omega arith) c.counted.ensures
     (c.put.ensures
     ∙ ap (λ (x : List ℕ). over a.out.now a.at (a.self.cid ∷ x)) (five_whole p five_bytes))
-
-pub returns-else-out-at-ge6 : goal.returns-else-out-at-ge6
-returns-else-out-at-ge6 c =
-    let a = c.args in
-    exactly_laid a.out.now a.at (held_by a.self) (length a.out.now) _ _ c.requires (omega arith) c.write.ensures

@@ -7,7 +7,7 @@ use lib.ListN.{length}
 use Rattle.bits.specs.Memory.{over}
 use Rattle.build.specs.Records.{len_byte, held_by}
 use Rattle.build.proofs.AsRecords.{five, five_whole}
-use Rattle.build.proofs.Writes.{packed_in, packed_out}
+use Rattle.build.proofs.Writes.{packed_in}
 use borrow.Author.Rules.{rules}
 use Rattle.build.proofs.record.Record.pack.Goals as goal
 
@@ -21,8 +21,3 @@ returns-then-i-slots c =
     ∙ ap (λ (x : ℕ). over a.slots.now (8 * a.i) (a.self.cid ∷ x ∷ five p)) n.ensures
     ∙ ap (λ (x : List ℕ). over a.slots.now (8 * a.i) (a.self.cid ∷ len_byte a.self.len ∷ x)) (five_whole p five_bytes)
     ∙ packed_in a.slots.now a.i (held_by a.self) (omega arith)
-
-pub returns-else-i-slots : goal.returns-else-i-slots
-returns-else-i-slots c =
-    let a = c.args in
-    packed_out a.slots.now a.i (held_by a.self) c.if-i-slots.false

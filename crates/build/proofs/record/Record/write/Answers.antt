@@ -4,22 +4,11 @@ use mathlib.Core.Path.{◌≡◌, ap, ◌∙◌}
 use native.Mathlib.Omega.{arith}
 use lib.ListN.{length, set, length-set}
 use lib.Seq.{paste, paste-zero}
-use Rattle.bits.proofs.Memory.{no_room}
-use Rattle.build.specs.Records.{held_by, command_bytes}
+use Rattle.build.specs.Records.{held_by}
 use Rattle.build.proofs.Writes.{counted_le, stored_all, one_counts, none_counts}
 use borrow.Author.Rules.{rules}
 use Rattle.build.proofs.record.Record.write.Goals as goal
 use Rattle.build.proofs.record.Record.write.Goals.{After-counted-n, then-i-n, else-i-n}
-
-pub returns-then-out-at : goal.returns-then-out-at
-returns-then-out-at c =
-    let a = c.args in
-    no_room a.out.now a.at (command_bytes (held_by a.self)) (omega arith)
-
-pub returns-then-out-body : goal.returns-then-out-body
-returns-then-out-body c =
-    let a = c.args in
-    no_room a.out.now a.at (command_bytes (held_by a.self)) (omega (arith, c.counted-n.ensures))
 
 -- no more bytes count than there are
 few : (c : After-counted-n) → c.counted-n.result ≤ 5
