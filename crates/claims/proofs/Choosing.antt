@@ -53,7 +53,7 @@ module _ (fopts payload : Bor (List ℕ)) (port : Std.Option ℕ) where
 
   -- port 0 is a port
   has_port : InPayload payload port → WithoutPort payload port → ⊥
-  has_port i w = let e : ◌≡◌ {A = Option ℕ} none (some 0) = sym w.no_port ∙ i.port_zero in let z : ◌≡◌ {A = ℕ} 0 1 = cc in omega arith
+  has_port i w = let e : ◌≡◌ {A = Option ℕ} none (some 0) = sym w.no_port ∙ i.port_zero in cc
 
   -- the verdict, by the three tests
   abbrev by_tests : Bool → Bool → Bool → Consent
@@ -74,7 +74,7 @@ module _ (fopts payload : Bor (List ℕ)) (port : Std.Option ℕ) where
   not_both h = by (in_payload (told_port port) payload.now) refl (non_empty fopts.now) refl
     where
       held : in_payload (told_port port) payload.now ≡ true → (InPayload payload port → ⊥) → ⊥
-      held e n = let q : true ≡ false = sym e ∙ elsewhere n in let z : ◌≡◌ {A = ℕ} 0 1 = cc in omega arith
+      held e n = let q : true ≡ false = sym e ∙ elsewhere n in cc
 
       by : (i : Bool) → in_payload (told_port port) payload.now ≡ i → (n : Bool) → non_empty fopts.now ≡ n → in_both (told_port port) fopts.now payload.now ≡ false
       by true e true f = absurd (held e (λ i. let z = h i in let l = ltb-true 0 (length fopts.now) f in omega arith))

@@ -76,7 +76,7 @@ written_nibble image code = let e : set_field 0 4 (get_or image 1 0) code ≡ ge
 
 read_with : (bytes : List ℕ) (s : ℕ) → delay_of bytes ≡ s → (a : Result RXTimingSetupReqPayload Refusal) → told rx_timing_setup_req_bytes a ≡ given bytes → ReadWithDelay s a
 read_with bytes s e (Ok p) t = λ r g. let same : rx_timing_setup_req_bytes p ≡ bytes = cc in g.1.1 ∙ ap delay_of same ∙ e
-read_with bytes s e (Err n) t = let z : ◌≡◌ {A = ℕ} 0 1 = cc in omega arith
+read_with bytes s e (Err n) t = cc
 
 -- ---- the ledger
 

@@ -3,7 +3,6 @@ use Prim.Native.Nat.{ℕ}
 use mathlib.Core.Bool.{Bool}
 use mathlib.Core.List.{List, [], ◌∷◌, ◌++◌, map}
 use mathlib.Core.Path.{◌≡◌, refl, ap, ◌∙◌, subst}
-use native.Mathlib.Omega.{arith}
 use Rattle.std.specs.Prelude.{Result, Ok, Err}
 use Rattle.bits.specs.Every.{Every}
 use Rattle.table.specs.Answers.{given, refused, accepted}
@@ -100,7 +99,7 @@ Means (range b r) = range_of b ≡ r
 -- three bytes that are a frequency
 in-hertz : (bytes : List ℕ) (hz : ℕ) → hertz bytes ≡ hz → (a : Result Frequency Refusal) → told bytes_of a ≡ given bytes → InHertz hz a
 in-hertz bytes hz e (Ok f) t = λ r g. let same : bytes_of f ≡ bytes = cc in g.1.1 ∙ ap hertz same ∙ e
-in-hertz bytes hz e (Err n) t = let z : ◌≡◌ {A = ℕ} 0 1 = cc in omega arith
+in-hertz bytes hz e (Err n) t = cc
 
 says_so : (a : Answering) (b : ℕ) (it : Bool) → rule a (b ∷ []) ≡ it → Says a b it
 says_so LinkADRAns b it e = λ r g. g.1.1 ∙ e

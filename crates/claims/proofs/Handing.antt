@@ -91,9 +91,9 @@ retold_itself (given (stopped n o)) = refl
 retold_itself (refused n) = refl
 
 pub retold_refused : {A B : Type 0} (f : A → B) (a : Answer (Found A)) (n : ℕ) → retold f a ≡ refused n → a ≡ refused n
-retold_refused f (given (command c next)) n e = let z : ◌≡◌ {A = ℕ} 0 1 = cc in absurd (omega arith)
-retold_refused f (given ended) n e = let z : ◌≡◌ {A = ℕ} 0 1 = cc in absurd (omega arith)
-retold_refused f (given (stopped k o)) n e = let z : ◌≡◌ {A = ℕ} 0 1 = cc in absurd (omega arith)
+retold_refused f (given (command c next)) n e = cc
+retold_refused f (given ended) n e = cc
+retold_refused f (given (stopped k o)) n e = cc
 retold_refused f (refused k) n e = cc
 
 module _ {A : Type 0} (tell : Placed → A) where
@@ -109,8 +109,8 @@ module _ {A : Type 0} (tell : Placed → A) where
 
   -- no ending is a command, nor moves who reads
   no_command : (e : Ending) {c : A} {next : ℕ} → ◌≡◌ {A = Answer (Found A)} (given (command c next)) (given (first_told tell [] e)) → ⊥
-  no_command (end o) p = let z : ◌≡◌ {A = ℕ} 0 1 = cc in omega arith
-  no_command (stop n o) p = let z : ◌≡◌ {A = ℕ} 0 1 = cc in omega arith
+  no_command (end o) p = cc
+  no_command (stop n o) p = cc
 
   stays : (e : Ending) (at : ℕ) → onward (given (first_told tell [] e)) at ≡ at
   stays (end o) at = refl

@@ -31,9 +31,6 @@ use Rattle.claims.specs.Jumping.{Makes, Asks, Nth, entries_for, EntriesIn, Makin
 use Rattle.claims.specs.Outcomes.{Gives}
 use Rattle.claims.proofs.Origins.{record_says}
 
-not_both : {A : Type 0} {x : A} {k : ℕ} → refused k ≡ given x → ⊥
-not_both e = let no_way : ◌≡◌ {A = ℕ} 0 1 = cc in omega arith
-
 -- below the length of a list there is an n-th
 nth_of : (ps : List Placed) (n : ℕ) {So : Placed → Type 0} → n < length ps → ((p : Placed) (behind : List Placed) → drop n ps ≡ p ∷ behind → So p) → Nth ps n So
 nth_of ps n {So} h so = by (drop n ps) refl
@@ -82,15 +79,15 @@ module _ (L : Rule) (s : List ℕ) where
       kept : (k : ℕ) {o : Answer ℕ × List ℕ} → Making L s numbers o → o ≡ (a, after) → a ≡ refused k → after ≡ numbers
       kept k (short h) f r = sym (ap (λ x. x.1) f)
       kept k (long h g) f r = sym (ap (λ x. x.1) f)
-      kept k (all h g) f r = absurd (not_both (sym r ∙ sym (ap (λ x. x.0) f)))
+      kept k (all h g) f r = let told = ap (λ x. x.0) f in cc
 
   -- the entries that it reported are the stream's
   reported : (numbers : List ℕ) {a : Answer ℕ} {after : List ℕ} {total : ℕ} → ◌≡◌ {A = Answer ℕ × List ℕ} (a, after) (made L s numbers) → a ≡ given total → take total after ≡ entries
   reported numbers {a} {after} {total} e r = by (making L s numbers) (sym e)
     where
       by : {o : Answer ℕ × List ℕ} → Making L s numbers o → o ≡ (a, after) → take total after ≡ entries
-      by (short h) f = absurd (not_both (ap (λ x. x.0) f ∙ r))
-      by (long h g) f = absurd (not_both (ap (λ x. x.0) f ∙ r))
+      by (short h) f = let told = ap (λ x. x.0) f in cc
+      by (long h g) f = let told = ap (λ x. x.0) f in cc
       by (all h g) f =
           let same : given (length entries) ≡ given total = ap (λ x. x.0) f ∙ r in
           let total_is : length entries ≡ total = cc in
@@ -123,9 +120,9 @@ module _ (L : Rule) (s : List ℕ) where
   spotted_by at (given (command h next)) {x} e =
       let x_is : record { at = at; cid = h.cid; len = h.len } ≡ x = cc in
       (ap (λ (y : Spot). y.at) (sym x_is), (next, ap (λ (y : Spot). given (command (heading y.cid y.len) next)) x_is))
-  spotted_by at (given ended) e = absurd (not_both e)
-  spotted_by at (given (stopped n o)) e = absurd (not_both e)
-  spotted_by at (refused n) e = absurd (not_both e)
+  spotted_by at (given ended) e = cc
+  spotted_by at (given (stopped n o)) e = cc
+  spotted_by at (refused n) e = cc
 
   -- a step finds it at its offset
   abbrev FoundThere : Spot → Type 0
@@ -141,8 +138,8 @@ module _ (L : Rule) (s : List ℕ) where
           f.1 ∙ ap (λ (k : ℕ). given (command (heading x.cid x.len) k)) next_is
 
       by : {a : Answer Spot} → Jumping L s es n a → a ≡ given x → FoundThere x
-      by (uncovered h) f = absurd (not_both f)
-      by (past h g) f = absurd (not_both f)
+      by (uncovered h) f = cc
+      by (past h g) f = cc
       by (there h g) f =
           let at : ℕ = after_steps L s (get_or es (n / 16) 0) (n % 16) in
           let found = spotted_by at (step_at L s at) f in

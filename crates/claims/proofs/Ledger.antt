@@ -153,9 +153,6 @@ entries_are after n list k e same h g =
 
 -- ---- lines that are all taken
 
-apart : {A : Type 0} {x : A} {k : ℕ} → ◌≡◌ {A = Answer A} (refused k) (given x) → ⊥
-apart e = let no_way : ◌≡◌ {A = ℕ} 0 1 = cc in omega arith
-
 -- have the form, and no number is told
 record AllTaken (ls : Lines) (o : Outcome) : Type 0 where
   lines : List TraceLine
@@ -165,13 +162,13 @@ record AllTaken (ls : Lines) (o : Outcome) : Type 0 where
 all_taken : (ls : Lines) (b : Book) → (taken_all ls b).0 ≡ accepted → AllTaken ls (taken_all ls b)
 unfolding taken_all
 all_taken [] b e = record { lines = []; read = refl; number = refl }
-all_taken (none ∷ ls) b e = absurd (apart e)
+all_taken (none ∷ ls) b e = cc
 all_taken (some l ∷ ls) b e = by (taken (some l) b) (all_taken ls) e
   where
     by : (z : Answer Book) → ((c : Book) → (taken_all ls c).0 ≡ accepted → AllTaken ls (taken_all ls c)) → (going z b (taken_all ls)).0 ≡ accepted
         → AllTaken (some l ∷ ls) (going z b (taken_all ls))
     by (given c) h e = let t = h c e in record { lines = l ∷ t.lines; read = ap (λ (x : Lines). some l ∷ x) t.read; number = t.number }
-    by (refused k) h e = absurd (apart e)
+    by (refused k) h e = cc
 
 -- the same of an outcome
 record TakenWhole (t : List ℕ) (b c : Book) : Type 0 where
@@ -298,8 +295,8 @@ taken_alone b p e = ap (λ (x : Lines). taken_all x b) (trace_read_back.all p.li
 
 one_list : (xs ys : List TraceLine) → ◌≡◌ {A = Lines} (map some xs) (map some ys) → xs ≡ ys
 one_list [] [] e = refl
-one_list [] (y ∷ ys) e = let no_way : ◌≡◌ {A = ℕ} 0 1 = cc in absurd (omega arith)
-one_list (x ∷ xs) [] e = let no_way : ◌≡◌ {A = ℕ} 0 1 = cc in absurd (omega arith)
+one_list [] (y ∷ ys) e = cc
+one_list (x ∷ xs) [] e = cc
 one_list (x ∷ xs) (y ∷ ys) e =
     let first : ◌≡◌ {A = Option TraceLine} (some x) (some y) = cc in
     let same : x ≡ y = cc in
@@ -336,7 +333,7 @@ refuses_exactly : RefusesExactly
 refuses_exactly text list r after g = record {
   refuses = λ k. (refuses k, λ f. verdict_is (is_refused text.now list.now k (told_line r.answer) (book_of r.ledger after) f));
   accepts = (
-    λ a k n b f. apart (sym (verdict_is (is_refused text.now list.now k n b f)) ∙ a),
+    λ a k n b f. let v = verdict_is (is_refused text.now list.now k n b f) in cc,
     λ none-at-fault. by (told_replay r.answer) refl none-at-fault,
   );
   tells = λ k f. tells f.at.lines list.now r.ledger after f.at.lawful f.before;
@@ -360,7 +357,7 @@ abbrev NotForm : Answer Book → Type 0
 NotForm a = a ≡ refused 18 → ⊥
 
 given_fine : (b : Book) → NotForm (given b)
-given_fine b e = apart (sym e)
+given_fine b e = cc
 
 other_fine : (k : ℕ) → (k ≡ 18 → ⊥) → NotForm (refused k)
 other_fine k h e = h cc

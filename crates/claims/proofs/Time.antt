@@ -22,7 +22,7 @@ use Rattle.claims.specs.Time.{InSeconds, TimeTells}
 -- a payload that was read from bytes
 in-seconds : (bytes : List ℕ) (s : ℕ) → seconds_of bytes ≡ s → (a : Result DeviceTimeAnsPayload Refusal) → told device_time_ans_bytes a ≡ given bytes → InSeconds s a
 in-seconds bytes s e (Ok p) t = λ r g. let same : device_time_ans_bytes p ≡ bytes = cc in g.1.1 ∙ ap seconds_of same ∙ e
-in-seconds bytes s e (Err n) t = let z : ◌≡◌ {A = ℕ} 0 1 = cc in omega arith
+in-seconds bytes s e (Err n) t = cc
 
 -- what is written, byte by byte
 four_bytes : (image : List ℕ) (s : ℕ) → seconds_at image s ≡ over image 1 (s % 256 ∷ s / 256 % 256 ∷ s / 256 ^ 2 % 256 ∷ s / 256 ^ 3 % 256 ∷ [])
