@@ -19,6 +19,7 @@ fn read_input(from: &mut impl Read, buf: &mut [u8]) -> usize
     requires { 1026 ≤ length buf.old }
     ensures { IsPrefixLen result buf.new }
 {
+    // A while: how far a read comes is known behind it, and a read to the end would need a heap.
     let mut len: usize = 0;
     while len < buf.len() {
         match from.read(&mut buf[len..]) {

@@ -66,6 +66,7 @@ impl<'a> Command<'a> {
         requires { is_counted self.rules self.cid ≡ true }
         ensures { result ≡ channels self.entry.payload.now }
     {
+        // By index: of a slice pattern the proof of the arm for other lengths didn't close.
         let payload = self.payload;
         let [a, b, c, d] = [payload[0], payload[1], payload[2], payload[3]];
         let request = LinkADRReqPayload(a, b, c, d);

@@ -1,4 +1,4 @@
-// The two passes over a stream: the text's length, and the text.
+// The two passes over a stream: the text's length, and the text. Two loops, and no closure for what is done at a step: each has an invariant of its own.
 ghost use Rattle.std.specs.Prelude.{◌≡◌, ◌≤◌, length};
 ghost use Rattle.bits.specs.Memory.{written_at};
 ghost use Rattle.listings.specs.Into.{largest, length_within, into};
