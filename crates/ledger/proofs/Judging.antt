@@ -1,7 +1,7 @@
 -- A line is judged rightly before anything of it is written: what its commands will find is known from the open requests before it, and from how
 -- many commands of each CID went before. Assumes nothing.
-use Prim.Native.Nat.{ℕ, zero, suc, ◌+◌, ◌-◌, ◌*◌, ◌/◌, ◌%◌, ◌<◌, ◌≤◌}
-use mathlib.Core.Bool.{Bool, true, false, cond, ◌&&◌, ◌||◌, true≢false}
+use Prim.Native.Nat.{ℕ, zero, suc, ◌+◌, ◌-◌, ◌*◌, ◌/◌, ◌<◌, ◌≤◌}
+use mathlib.Core.Bool.{Bool, true, false, cond, ◌&&◌, true≢false}
 use mathlib.Core.List.{List, [], ◌∷◌, ◌++◌, head?, tail, map}
 use Rattle.std.specs.Prelude.{None, Some, slice_get}
 use mathlib.Core.Option.{Option, none, some}
@@ -9,12 +9,12 @@ use mathlib.Core.Path.{◌≡◌, refl, sym, ap, ◌∙◌, subst}
 use native.Mathlib.Decide.{dec_lt}
 use native.Mathlib.Nat.{sub-zero}
 use native.Mathlib.Omega.{arith}
-use borrow.Author.Tests.{eqb-true, eqb-false, ne_eqb, lt-ltb, le-ltb}
+use borrow.Author.Tests.{eqb-true, eqb-false, lt-ltb, le-ltb}
 use lib.Dec.{eqb, ltb}
 use lib.ListN.{length, get_or, take, drop, set, replicate, length-append, length-set, get_or-replicate, get_or-eq_default}
 use lib.Seq.{drop-drop, get_or-set_same, get_or-set_other}
 use Rattle.bits.proofs.Memory.{over_length}
-use Rattle.bits.specs.Bits.{field, bit_of}
+use Rattle.bits.specs.Bits.{bit_of}
 use Rattle.bits.specs.Memory.{over}
 use Rattle.payloads.specs.Commands.{in_five}
 use Rattle.table.specs.Answers.{Answer, given, refused, accepted}
@@ -45,25 +45,6 @@ tail_drop {A} n l = one (drop n l) ∙ drop-drop 1 n l
 none_tail : {A : Type 0} (l : List A) → head? l ≡ none → l ≡ tail l
 none_tail [] e = refl
 none_tail (a ∷ l) e = let no_way : ◌≡◌ {A = ℕ} 0 1 = cc in absurd (omega arith)
-
--- ---- a request for a channel that is not held, by the low byte of its payload
-
-index : (n : ℕ) → field 0 8 (n % 256) ≡ n % 256
-index n = omega arith
-
-either : (t : Bool) → (t || false) ≡ t
-either true = refl
-either false = refl
-
-module _ (r : Asked) (c : ℕ) where
-  pub beyond_new : c ≡ 0x07 → ltb 15 (r.payload % 256) ≡ is_beyond (request_of c r)
-  beyond_new e = sym (ap (λ (k : ℕ). is_beyond (request_of k r)) e ∙ either _ ∙ ap (ltb 15) (index r.payload))
-
-  pub beyond_dl : c ≡ 0x0A → ltb 15 (r.payload % 256) ≡ is_beyond (request_of c r)
-  beyond_dl e = sym (ap (λ (k : ℕ). is_beyond (request_of k r)) e ∙ ap (ltb 15) (index r.payload))
-
-  pub beyond_not : (c ≡ 0x07 → ⊥) → (c ≡ 0x0A → ⊥) → false ≡ is_beyond (request_of c r)
-  beyond_not a b = rw (ne_eqb c 7 a, ne_eqb c 10 b)
 
 -- ---- whether an answer brings an entry
 
@@ -109,24 +90,6 @@ module _ (q : Queue) (c k : ℕ) (yea : Bool) where
 
 pub taking_none : (left : ℕ) → taking 0 left ≡ given left
 taking_none left = rw (le-ltb left 0 (omega arith)) (ap given (sub-zero left))
-
-module _ (rs : List Request) {asks : Bool} (k c : ℕ) (yea : Bool) (left : ℕ) where
-  pub behind_request : asks ≡ true → k < 8 - length rs → given left ≡ left_behind rs asks k c yea left
-  behind_request e h = rw (e, lt-ltb (length rs + k) 8 (omega arith))
-
-  pub behind_full : asks ≡ true → 8 - length rs ≤ k → refused 17 ≡ left_behind rs asks k c yea left
-  behind_full e h = rw (e, le-ltb (length rs + k) 8 (omega arith))
-
-  -- of an answer, where t tells whether an entry is due
-  module _ (t : Bool) (e : asks ≡ false) (q : bit_of t ≡ length (brought_by (reply_of c yea 0 0 0) (head? (drop k rs)))) where
-    behind_by : taking (bit_of t) left ≡ left_behind rs asks k c yea left
-    behind_by = rw e (ap (λ (n : ℕ). taking n left) q)
-
-    pub behind_entry : t ≡ true → taking 1 left ≡ left_behind rs asks k c yea left
-    behind_entry d = ap (λ (b : Bool). taking (bit_of b) left) (sym d) ∙ behind_by
-
-    pub behind_clear : t ≡ false → given left ≡ left_behind rs asks k c yea left
-    behind_clear d = sym (taking_none left) ∙ ap (λ (b : Bool). taking (bit_of b) left) (sym d) ∙ behind_by
 
 abbrev left_in : Book → ℕ
 left_in b = length b.list / 4 - b.listed

@@ -102,13 +102,6 @@ module _ (c : ℕ) (r : Asked) (row : ℕ) (row_is : row ≡ row_written c (r.pa
         → given (book_in lines listed q (set h row p) l) ≡ decided true asked (book_in lines listed q h l)
     holds_it p there low after = takes (set h row p) (λ e. omega arith) (is_held h p there low after)
 
-    pub writes_nothing : row ≡ 37 → given (book_in lines listed q h l) ≡ decided true asked (book_in lines listed q h l)
-    writes_nothing e = takes h (λ z. omega arith) (is_not_held h e)
-
-    pub notes_it : row ≡ 38 → (b : Book) → given b ≡ noted (beyond asked.at) (book_in lines listed q h l)
-        → given b ≡ decided true asked (book_in lines listed q h l)
-    notes_it e b n = n ∙ sym (ap choice (is-beyond e))
-
 -- ---- an answer
 
 none_tail : (s : List Request) → head? s ≡ none → s ≡ tail s
@@ -150,9 +143,6 @@ module _ (a : Reply) (lines listed : ℕ) (q : List Queue) (h : List Parents) (l
       is_stray =
           ap (noted (stray a.at)) same_book
           ∙ sym (ap (λ (first : Option Request). answering a first book) first_none)
-
-      pub stray_room : fault_in (step (reply a) book) ≡ 0 → listed < length l / 4
-      stray_room e = room_for book (stray a.at) (ap fault_in (ap (λ (first : Option Request). answering a first book) (sym first_none)) ∙ e)
 
   -- to the first request
   module _ (r : Asked) (first : slice_get (open_in (get_or q a.cid no_queue)) 0 ≡ Some r) where

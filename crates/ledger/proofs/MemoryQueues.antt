@@ -1,5 +1,5 @@
 -- The open requests and the parents in memory, and what becomes of them where one queue or one row changes. Assumes nothing.
-use Prim.Native.Nat.{ℕ, suc, ◌<◌}
+use Prim.Native.Nat.{ℕ, ◌<◌}
 use mathlib.Core.Bool.{Bool, true, false, cond}
 use mathlib.Core.List.{List, [], ◌∷◌, ◌++◌, head?, tail, map}
 use mathlib.Core.Option.{none, some}
@@ -8,10 +8,10 @@ use borrow.Author.Tests.{eqb-true, eqb-false}
 use lib.Dec.{eqb}
 use lib.ListN.{length, get_or, set, take}
 use lib.Seq.{get_or-set_same, get_or-set_other}
-use Rattle.std.specs.Prelude.{Option as Maybe, None, Some, slice_get}
+use Rattle.std.specs.Prelude.{None, Some, slice_get}
 use Rattle.ledger.specs.Book.{put}
 use Rattle.ledger.specs.Events.{Request}
-use Rattle.ledger.specs.Memory.{request_of, open_requests, kept, pending_in, row_in, no_queue, no_parents, parents_in}
+use Rattle.ledger.specs.Memory.{request_of, open_requests, pending_in, row_in, no_queue, no_parents, parents_in}
 use Rattle.ledger.specs.declared.memory.Asked.{Asked}
 use Rattle.ledger.specs.declared.memory.Queue.{Queue}
 use Rattle.ledger.specs.declared.memory.Parents.{Parents}
@@ -25,10 +25,6 @@ map-append c (x ∷ l) m = ap (λ (s : List Request). request_of c x ∷ s) (map
 pub map-tail : (c : ℕ) (l : List Asked) → map (request_of c) (tail l) ≡ tail (map (request_of c) l)
 map-tail c [] = refl
 map-tail c (x ∷ l) = refl
-
-pub map-length : (c : ℕ) (l : List Asked) → length (map (request_of c) l) ≡ length l
-map-length c [] = refl
-map-length c (x ∷ l) = ap suc (map-length c l)
 
 pub map-take_two : (c : ℕ) (x : Asked) (l : List Asked) → map (request_of c) (take 2 (x ∷ l)) ≡ take 2 (request_of c x ∷ map (request_of c) l)
 map-take_two c x [] = refl
@@ -67,8 +63,3 @@ row_put w row p h c d = by (eqb row d) refl
         ap (λ (k : ℕ). row_in (set w row p) c k) (sym same)
         ∙ ap (λ (x : Parents). map (request_of c) (parents_in x)) (get_or-set_same w row p no_parents h)
     by false e = ap (λ (x : Parents). map (request_of c) (parents_in x)) (get_or-set_other w row d p no_parents (λ z. eqb-false row d e (sym z)))
-
-pub held_more : (r : Asked) (l b : Maybe Asked) → kept (Some r) l ≡ take 2 (r ∷ kept l b)
-held_more r None b = refl
-held_more r (Some x) None = refl
-held_more r (Some x) (Some y) = refl

@@ -92,26 +92,6 @@ writer_of channel i h = let p = row-for 5 i h in cid_of_channel (row_for 5 i) (o
 writer_of downlink i h = let p = row-for 21 i h in cid_of_downlink (row_for 21 i) (omega arith)
 writer_of (other e₇ e₁₀ e) i h = let r = e i in absurd (omega arith)
 
-row_for_bound : (first i : ℕ) → first < 22 → row_for first i ≤ 38
-row_for_bound first i l = by (dec_lt i 16)
-  where
-    by : Dec (i < 16) → row_for first i ≤ 38
-    by (yes h) = rw (lt-ltb i 16 h) (omega arith)
-    by (no h) = let m : 16 ≤ i = omega arith in rw (le-ltb i 16 m) (omega arith)
-
-pub row_bound : (c i : ℕ) → row_written c i ≤ 38
-row_bound c i = by (known c)
-  where
-    by : {d : ℕ} → Known d → row_written d i ≤ 38
-    by adr = omega arith
-    by duty = omega arith
-    by windows = omega arith
-    by timing = omega arith
-    by limits = omega arith
-    by channel = row_for_bound 5 i (omega arith)
-    by downlink = row_for_bound 21 i (omega arith)
-    by (other e₇ e₁₀ e) = omega (arith, e i)
-
 -- ---- the settings
 
 -- the channel that a request names

@@ -145,22 +145,6 @@ module _ (t : List ℕ) (at : ℕ) where
       let z : number_in (drop at t) ≡ 48 ∷ [] = rw (one_at t at h, eq-eqb (get_or t at 0) 48 e, e) in
       record { means = ap value_of (sym z); there = omega (arith, ap length z) }
 
--- a number that some digits make, or none
-module _ (t : List ℕ) (at : ℕ) {v i : ℕ} (n : Number t at v i) where
-  pub number_some : (i ≡ at → ⊥) → some (v, i) ≡ numbered at (number_in (drop at t))
-  number_some h = by (number_in (drop at t)) n.means n.there
-    where
-      by : (d : List ℕ) → v ≡ value_of d → i ≡ at + length d → some (v, i) ≡ numbered at d
-      by [] m e = absurd (h (omega arith))
-      by (c ∷ s) m e = ap₂ (λ (x y : ℕ). some (x, y)) m e
-
-  pub number_none : i ≡ at → none ≡ numbered at (number_in (drop at t))
-  number_none h = by (number_in (drop at t)) n.there
-    where
-      by : (d : List ℕ) → i ≡ at + length d → none ≡ numbered at d
-      by [] e = refl
-      by (c ∷ s) e = absurd (omega arith)
-
 -- what is known of a number that there is, and where there is none
 pub record Numbered (v a at : ℕ) (d : List ℕ) : Type 0 where
   pub means : v ≡ value_of d

@@ -72,6 +72,10 @@ abbrev pub digit_told : Maybe ℕ → ℕ
 digit_told None = 10
 digit_told (Some d) = d
 
+abbrev pub hex_told : Maybe ℕ → ℕ
+hex_told None = 16
+hex_told (Some h) = h
+
 abbrev pub number_told : Maybe Number → Option (ℕ × ℕ)
 number_told None = none
 number_told (Some n) = some (n.value, n.next)

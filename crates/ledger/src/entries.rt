@@ -3,7 +3,8 @@ ghost use Rattle.std.specs.Prelude.{◌≡◌};
 ghost use Rattle.ledger.specs.Asked.{note_of};
 ghost use Rattle.ledger.specs.Memory.{note_at};
 
-// An entry: its kind, and the place of the command or of the stop that it tells of.
+// An entry: its kind, and the place of the command or of the stop that it tells of. The kind is a number, since the lent numbers (RULES: X12) may
+// hold any.
 #[derive(Clone, Copy)]
 pub struct Entry {
     pub kind: u64,
@@ -19,14 +20,11 @@ pub fn entry_at(list: &[u64], k: usize) -> Entry
     let room = list.len() / 4;
     if k < room {
         let at = 4 * k;
-        let a = at + 1;
-        let b = at + 2;
-        let c = at + 3;
         Entry {
             kind: list[at],
-            line: list[a],
-            frame: list[b],
-            offset: list[c],
+            line: list[at + 1],
+            frame: list[at + 2],
+            offset: list[at + 3],
         }
     } else {
         Entry {

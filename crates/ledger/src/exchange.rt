@@ -25,8 +25,8 @@ fn number_after(lines: u64) -> u64
 }
 
 impl Ledger {
-    // The line at an offset is taken, and the offset behind it is answered. It is judged before anything is written, so a refused one leaves ledger and
-    // list as they were.
+    // The line at an offset is taken, and the offset behind it is answered. It is judged before anything is written, so a refused one leaves ledger
+    // and list as they were.
     fn take_line(
         &mut self,
         list: &mut [u64],

@@ -11,7 +11,7 @@ ghost use Rattle.table.specs.Told.{told, told_verdict};
 ghost use Rattle.ledger.specs.Working.{reply_of, taking, left_behind, Judges};
 
 use crate::Ledger;
-use crate::commands::{is_request, says_yes};
+use crate::commands::Command;
 use crate::memory::{Asked, CIDS, MOST_OPEN, Queue};
 use table::{Refusal, Rules};
 use walk::{Step, step_at};
@@ -34,17 +34,17 @@ fn is_beyond(cid: u8, request: Asked) -> bool
 }
 
 // Whether an answer brings an entry, so many answers of its CID going before it. What it says is asked last, since it counts for few.
-fn is_due(queue: &Queue, before: usize, cid: u8, payload: &[u8]) -> bool
-    ensures { bit_of result ≡ length (brought_by (reply_of cid (agrees_with cid payload.now) 0 0 0)
-        (head? (drop before (open_requests cid queue.now)))) }
+fn is_due(queue: &Queue, before: usize, command: Command) -> bool
+    ensures { bit_of result ≡ length (brought_by (reply_of command.entry.cid (agrees_with command.entry.cid command.entry.payload.now) 0 0 0)
+        (head? (drop before (open_requests command.entry.cid queue.now)))) }
 {
     let Some(request) = queue.get(before) else {
         return true;
     };
-    if !is_beyond(cid, request) {
+    if !is_beyond(command.cid, request) {
         return false;
     }
-    says_yes(cid, payload)
+    command.says_yes()
 }
 
 // An entry takes the room of one: so much is left behind it of what was before.
@@ -59,13 +59,13 @@ fn left_after(
     rules: Rules,
     queue: &Queue,
     before: usize,
-    cid: u8,
-    payload: &[u8],
+    command: Command,
     left: usize,
 ) -> Result<usize, Refusal>
-    ensures { told (λ n. n) result ≡ left_behind (open_requests cid queue.now) (is_request rules cid) before cid (agrees_with cid payload.now) left }
+    ensures { told (λ n. n) result ≡ left_behind (open_requests command.entry.cid queue.now) (is_request rules command.entry.cid) before
+        command.entry.cid (agrees_with command.entry.cid command.entry.payload.now) left }
 {
-    if is_request(rules, cid) {
+    if command.is_request(rules) {
         let free = MOST_OPEN - queue.open();
         return if before < free {
             Ok(left)
@@ -73,7 +73,7 @@ fn left_after(
             Err(Refusal::PendingFull)
         };
     }
-    if is_due(queue, before, cid, payload) {
+    if is_due(queue, before, command) {
         room_after(left)
     } else {
         Ok(left)
@@ -95,7 +95,8 @@ impl Ledger {
                     let before = seen[row];
                     seen[row] = before + 1;
                     let payload = &stream[at + 1..next];
-                    left = left_after(rules, &self.pending[row], before, cid, payload, left)?;
+                    let command = Command { cid, payload };
+                    left = left_after(rules, &self.pending[row], before, command, left)?;
                     at = next;
                 }
                 Step::End => return Ok(()),

@@ -2,7 +2,7 @@
 ghost use Rattle.std.specs.Prelude.{◌≡◌, ◌+◌, ◌*◌, ◌/◌, ◌<◌, ◌≤◌, min, length, take, drop, IfSome};
 ghost use Rattle.text.specs.Decimal.{value_of};
 ghost use Rattle.ledger.specs.Lines.{digit_in, number_in, heading_in, nibble, pairs_in, field_in};
-ghost use Rattle.ledger.specs.Lines.{known, digit_told, number_told, numbered, closed_told, closed_at, from, field_told, line_told};
+ghost use Rattle.ledger.specs.Lines.{known, digit_told, hex_told, number_told, numbered, closed_told, closed_at, from, field_told, line_told};
 ghost use Rattle.ledger.specs.Working.{front_at};
 
 use table::Direction;
@@ -17,7 +17,7 @@ struct Number {
     next: usize,
 }
 
-// How many bytes a stream has, and the offset behind its field and the newline.
+// How many bytes a stream has in the memory, which is an array (RULES: X17), and the offset behind its field and the newline.
 #[derive(Clone, Copy)]
 struct Field {
     len: usize,
@@ -108,27 +108,28 @@ fn heading_at(text: &[u8], at: usize) -> Option<Direction>
 }
 
 // One arm for each digit: compiled, that is a table, where ranges would be branches that no processor foresees.
-fn hex_value(c: u8) -> u8
-    ensures { result ≡ nibble c }
+fn hex_value(c: u8) -> Option<u8>
+    ensures value { hex_told result ≡ nibble c }
+    ensures bound { IfSome result (λ h. h < 16) }
 {
     match c {
-        48 => 0,
-        49 => 1,
-        50 => 2,
-        51 => 3,
-        52 => 4,
-        53 => 5,
-        54 => 6,
-        55 => 7,
-        56 => 8,
-        57 => 9,
-        65 => 10,
-        66 => 11,
-        67 => 12,
-        68 => 13,
-        69 => 14,
-        70 => 15,
-        _ => 16,
+        48 => Some(0),
+        49 => Some(1),
+        50 => Some(2),
+        51 => Some(3),
+        52 => Some(4),
+        53 => Some(5),
+        54 => Some(6),
+        55 => Some(7),
+        56 => Some(8),
+        57 => Some(9),
+        65 => Some(10),
+        66 => Some(11),
+        67 => Some(12),
+        68 => Some(13),
+        69 => Some(14),
+        70 => Some(15),
+        _ => None,
     }
 }
 
@@ -155,23 +156,18 @@ fn pairs(text: &[u8], at: usize, stream: &mut [u8; MOST_BYTES]) -> usize
     ensures stream_after { take result stream.new ≡ pairs_in 255 (drop at text.now) }
 {
     let most = room_in(text.len() - at);
-    let mut n: usize = 0;
-    let mut i = at;
-    while n < most {
-        let high = hex_value(text[i]);
-        if 15 < high {
-            break;
-        }
-        let second = i + 1;
-        let low = hex_value(text[second]);
-        if 15 < low {
-            break;
-        }
+    for n in 0..most {
+        let first = at + 2 * n;
+        let Some(high) = hex_value(text[first]) else {
+            return n;
+        };
+        let second = first + 1;
+        let Some(low) = hex_value(text[second]) else {
+            return n;
+        };
         stream[n] = byte_of(high, low);
-        n += 1;
-        i += 2;
     }
-    n
+    most
 }
 
 // Whether a newline ends the field there, which has so many bytes.

@@ -47,7 +47,7 @@ pub(crate) struct Asked {
     pub payload: u64,
 }
 
-// The open requests of a CID, the earliest first.
+// The open requests of a CID, the earliest first: an array and a count, since a ledger's memory is its own and does not grow (RULES: X17).
 #[derive(Clone, Copy, Default)]
 pub(crate) struct Queue {
     requests: [Asked; MOST_OPEN],
@@ -79,7 +79,7 @@ enum Written {
 
 impl Queue {
     // A count that says more than there is room for says that there is no room left.
-    pub fn open(&self) -> usize
+    pub(crate) fn open(&self) -> usize
         ensures value { result ≡ length (open_in self.now) }
         ensures bound { result ≤ 8 }
     {
@@ -87,7 +87,7 @@ impl Queue {
     }
 
     // The open request that so many stand before.
-    pub fn get(&self, before: usize) -> Option<Asked>
+    pub(crate) fn get(&self, before: usize) -> Option<Asked>
         ensures { result ≡ slice_get (open_in self.now) before }
     {
         if before < self.open() {
@@ -98,7 +98,7 @@ impl Queue {
     }
 
     // A request is open behind the others.
-    fn push(&mut self, request: Asked)
+    pub(crate) fn push(&mut self, request: Asked)
         requires { length (open_in self.old) < 8 }
         ensures { open_in self.new ≡ open_in self.old ++ (request ∷ []) }
     {
@@ -172,17 +172,6 @@ impl Ledger {
         let behind = first + 4;
         list[first..behind].copy_from_slice(&[kind as u64, at.line, at.frame, at.offset]);
         self.listed += 1;
-    }
-
-    // A request is open behind the others of its CID.
-    pub(crate) fn ask(&mut self, cid: u8, request: Asked)
-        requires cid_bound { cid < 16 }
-        requires room { length (pending_in self.old.pending cid) < 8 }
-        ensures { (list : List ℕ) → book_of self.new list
-            ≡ opening cid (pending_in self.old.pending cid ++ (request_of cid request ∷ [])) (book_of self.old list) }
-    {
-        let row = cid as usize;
-        self.pending[row].push(request);
     }
 
     // A request that is answered yes.

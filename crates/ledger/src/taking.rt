@@ -8,24 +8,26 @@ ghost use Rattle.ledger.specs.Memory.{book_of};
 ghost use Rattle.ledger.specs.Working.{fault_in, events_from};
 
 use crate::Ledger;
-use crate::commands::{is_request, payload_number, says_yes};
+use crate::commands::Command;
 use crate::memory::{Asked, Kind, Place};
 use table::Rules;
 use walk::{Step, step_at};
 
 impl Ledger {
-    // A command: a request is pending from here on, an answer goes to the earliest.
-    fn take_command(&mut self, list: &mut [u64], rules: Rules, cid: u8, payload: &[u8], at: Place)
-        requires cid_bound { cid < 16 }
-        requires faultless { fault_in (step (event_of rules at.line at.frame (placed at.offset cid payload.now)) (book_of self.old list.old)) ≡ 0 }
-        ensures { given (book_of self.new list.new) ≡ step (event_of rules at.line at.frame (placed at.offset cid payload.now)) (book_of self.old list.old) }
+    // A command: a request is open behind the others of its CID, an answer goes to the earliest.
+    fn take_command(&mut self, list: &mut [u64], rules: Rules, command: Command, at: Place)
+        requires { fault_in
+            (step (event_of rules at.line at.frame (placed at.offset command.cid command.payload.now)) (book_of self.old list.old)) ≡ 0 }
+        ensures { given (book_of self.new list.new)
+            ≡ step (event_of rules at.line at.frame (placed at.offset command.entry.cid command.entry.payload.now)) (book_of self.old list.old) }
     {
-        if is_request(rules, cid) {
-            let payload = payload_number(payload);
-            self.ask(cid, Asked { at, payload });
+        if command.is_request(rules) {
+            let payload = command.payload_number();
+            let row = command.cid as usize;
+            self.pending[row].push(Asked { at, payload });
         } else {
-            let agrees = says_yes(cid, payload);
-            self.answer(list, cid, agrees, at);
+            let agrees = command.says_yes();
+            self.answer(list, command.cid, agrees, at);
         }
     }
 
@@ -45,7 +47,7 @@ impl Ledger {
             match step_at(rules, stream, at) {
                 Step::Command { cid, next, .. } => {
                     let payload = &stream[at + 1..next];
-                    self.take_command(list, rules, cid, payload, place);
+                    self.take_command(list, rules, Command { cid, payload }, place);
                     at = next;
                 }
                 Step::End => return,

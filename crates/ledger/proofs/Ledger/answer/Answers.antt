@@ -5,7 +5,7 @@ use borrow.Author.Rules.{rules}
 use lib.ListN.{length}
 use Rattle.ledger.specs.Events.{Reply}
 use Rattle.ledger.specs.Working.{reply_of}
-use Rattle.ledger.proofs.MemoryAnswers.{is_stray, room_beyond, answers_yes, answers_no}
+use Rattle.ledger.proofs.MemoryAnswers.{is_stray, answers_yes}
 use Rattle.ledger.proofs.Ledger.answer.Goals as goal
 use Rattle.ledger.proofs.Ledger.answer.Goals.{After-pop}
 
@@ -24,13 +24,6 @@ returns-in_default c =
     c.note.ensures
     ∙ is_stray (it p) l.lines l.listed l.pending l.held a.list.now c.pop.new.self (there p) c.pop.ensures.rest (sym c.in_default.ensures.first)
 
-pub take_effect-requires : goal.take_effect-requires
-take_effect-requires c =
-    let a = c.args in
-    let l = a.self.now in
-    room_beyond (it (goal.at.take_effect-requires c).After-pop) l.lines l.listed l.pending l.held a.list.now c.in-Some.request (sym c.in-Some.ensures.first)
-    c.if-agrees.true c.requires.faultless
-
 pub returns-then-agrees : goal.returns-then-agrees
 returns-then-agrees c =
     let a = c.args in
@@ -38,11 +31,3 @@ returns-then-agrees c =
     let p = (goal.at.returns-then-agrees c).After-pop in
     answers_yes (it p) l.lines l.listed l.pending l.held a.list.now c.in-Some.request (sym c.in-Some.ensures.first)
     c.pop.new.self (there p) c.pop.ensures.rest c.if-agrees.true _ c.take_effect.ensures
-
-pub returns-else-agrees : goal.returns-else-agrees
-returns-else-agrees c =
-    let a = c.args in
-    let l = a.self.now in
-    let p = (goal.at.returns-else-agrees c).After-pop in
-    answers_no (it p) l.lines l.listed l.pending l.held a.list.now c.in-Some.request (sym c.in-Some.ensures.first)
-    c.pop.new.self (there p) c.pop.ensures.rest c.if-agrees.false

@@ -43,8 +43,8 @@ slice_bounds-payload-start c = let w = standing (goal.at.slice_bounds-payload-st
 pub slice_bounds-payload-end : goal.slice_bounds-payload-end
 slice_bounds-payload-end c = let w = standing (goal.at.slice_bounds-payload-end c).In-Command in omega (arith, w.behind, w.fits)
 
-pub take_command-requires-clause-cid_bound : goal.take_command-requires-clause-cid_bound
-take_command-requires-clause-cid_bound c = (standing (goal.at.take_command-requires-clause-cid_bound c).In-Command).low
+pub invariant_of-take_command : goal.invariant_of-take_command
+invariant_of-take_command c = record { low = (standing (goal.at.invariant_of-take_command c).In-Command).low }
 
 -- what it comes to, its payload being so long
 module _ (c : In-Command) where
@@ -53,10 +53,10 @@ module _ (c : In-Command) where
       step (event_of c.args.rules c.args.self.now.lines c.args.frame (placed c.commands.at c.in-Command.cid (take n (drop (c.commands.at + 1) c.args.stream.now))))
       (book_of c.commands.self c.commands.list)
 
-pub take_command-requires-clause-faultless : goal.take_command-requires-clause-faultless
-take_command-requires-clause-faultless c =
+pub take_command-requires : goal.take_command-requires
+take_command-requires c =
     let a = c.args in
-    let p = (goal.at.take_command-requires-clause-faultless c).In-Command in
+    let p = (goal.at.take_command-requires c).In-Command in
     ap (λ (n : ℕ). fault_in (comes p n)) (long p) ∙ command_faultless a.rules a.self.now.lines a.frame a.stream.now _ c.commands.invariant (here p)
 
 pub commands-smaller : goal.commands-smaller

@@ -120,3 +120,6 @@ returns-in-Refused c =
     let a = c.args in
     judged_never a.rules a.stream.now a.self.now.pending a.self.now.listed a.room c.commands.invariant
     (sym c.step_at.ensures ∙ ap told_step c.in-Refused.is)
+
+pub invariant_of-command : goal.invariant_of-command
+invariant_of-command c = record { low = low (goal.at.invariant_of-command c).In-Command }

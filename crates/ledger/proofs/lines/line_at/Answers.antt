@@ -1,7 +1,6 @@
 -- `line_at` meets its contract. Assumes nothing.
 use Prim.Native.Nat.{◌+◌, ◌≤◌}
 use mathlib.Core.Path.{sym}
-use borrow.Author.Rules.{rules}
 use native.Mathlib.Omega.{arith}
 use lib.ListN.{length, drop}
 use Rattle.ledger.specs.Lines.{number_in}
@@ -40,9 +39,6 @@ returns-in_err-direction-clause-stream_after c =
 module _ (c : In_ok-direction) where
   room : c.in_ok-number.number.next + 3 ≤ length c.args.text.now
   room = heading_room c.args.text.now c.in_ok-number.number.next (sym c.in_ok-direction.ensures)
-
-pub overflow_add-behind : goal.overflow_add-behind
-overflow_add-behind c = let r = room (goal.at.overflow_add-behind c).In_ok-direction in search rules
 
 pub field_at-requires : goal.field_at-requires
 field_at-requires c = room (goal.at.field_at-requires c).In_ok-direction
