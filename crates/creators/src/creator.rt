@@ -4,7 +4,8 @@ ghost use Rattle.creators.specs.Image.{new_of, image_length};
 
 use crate::kinds::CommandKind;
 
-// A creator: an image of one command, the CID and then the payload, N bytes in all.
+// A creator: an image of one command, the CID and then the payload, N bytes in all. Where an image has payload bytes, `Default` stands by hand:
+// what it promises is `default_of`, of which a derived one's promise says nothing (tried), and a slip of it is tried (must-fail/slips.edit).
 pub trait Creator<const N: usize>: Copy + Default {
     // The kinds of the direction that it is sent in.
     type Kind: CommandKind;
@@ -39,6 +40,6 @@ pub trait Creator<const N: usize>: Copy + Default {
         1 + usize::from(self.kind().entry().size)
     }
 
-    // six bytes hold the longest image
+    // Six bytes hold the longest image
     ghost short: { N ≤ 6 };
 }

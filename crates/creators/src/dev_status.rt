@@ -89,7 +89,7 @@ impl DevStatusAnsCreator {
         if margin < -32 || 31 < margin {
             return Err(Refusal::MarginOutOfRange);
         }
-        // its low six bits, in two's complement
+        // Its low six bits, in two's complement
         self.data[2] = margin.cast_unsigned() % 64;
         Ok(())
     }

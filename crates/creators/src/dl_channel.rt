@@ -4,7 +4,7 @@ ghost use Rattle.bits.specs.Bits.{bit_of};
 ghost use Rattle.table.specs.Table.{named};
 ghost use Rattle.fields.specs.Frequency.{bytes_of};
 ghost use Rattle.fields.specs.Places.{dl_channel_req_channel_index, dl_channel_req_frequency, dl_channel_ans_channel_freq_ack, dl_channel_ans_uplink_freq_ack};
-ghost use Rattle.creators.specs.Image.{new_of, default_of, put_at, put_bytes};
+ghost use Rattle.creators.specs.Image.{default_of, put_at, put_bytes};
 
 use crate::creator::Creator;
 use crate::engine::flag;

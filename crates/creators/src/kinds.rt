@@ -24,9 +24,10 @@ pub struct Entry {
 pub trait CommandKind: Copy {
     ghost command: { Self → Command };
 
-    // no two are one command
+    // No two are one command
     ghost apart: { (k m : Self) → command k ≡ command m → k ≡ m };
 
+    // By number, once more beside the table: that they are the table's is proved.
     fn entry(self) -> Entry
         ensures cid { result.cid ≡ (command self).cid }
         ensures size { result.size ≡ (command self).size };

@@ -4,7 +4,7 @@ ghost use Rattle.bits.specs.Bits.{bit_of};
 ghost use Rattle.table.specs.Table.{named};
 ghost use Rattle.table.specs.Told.{told_verdict};
 ghost use Rattle.fields.specs.Places.{link_adr_req_data_rate, link_adr_req_tx_power, link_adr_req_channel_mask, link_adr_req_redundancy, link_adr_ans_channel_mask_ack, link_adr_ans_data_rate_ack, link_adr_ans_power_ack};
-ghost use Rattle.creators.specs.Image.{new_of, default_of, checked_at, put_bytes, put_at};
+ghost use Rattle.creators.specs.Image.{default_of, checked_at, put_bytes, put_at};
 
 use crate::creator::Creator;
 use crate::engine::{flag, nibble};

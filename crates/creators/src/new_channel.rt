@@ -4,7 +4,7 @@ ghost use Rattle.bits.specs.Bits.{bit_of};
 ghost use Rattle.table.specs.Table.{named};
 ghost use Rattle.fields.specs.Frequency.{bytes_of};
 ghost use Rattle.fields.specs.Places.{new_channel_req_channel_index, new_channel_req_frequency, new_channel_req_data_rate_range, new_channel_ans_channel_freq_ack, new_channel_ans_data_rate_range_ack};
-ghost use Rattle.creators.specs.Image.{new_of, default_of, put_at, put_bytes};
+ghost use Rattle.creators.specs.Image.{default_of, put_at, put_bytes};
 
 use crate::creator::Creator;
 use crate::engine::flag;

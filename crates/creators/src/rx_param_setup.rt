@@ -4,7 +4,7 @@ ghost use Rattle.bits.specs.Bits.{bit_of};
 ghost use Rattle.table.specs.Table.{named};
 ghost use Rattle.fields.specs.Frequency.{bytes_of};
 ghost use Rattle.fields.specs.Places.{rx_param_setup_req_dl_settings, rx_param_setup_req_frequency, rx_param_setup_ans_channel_ack, rx_param_setup_ans_rx2_data_rate_ack, rx_param_setup_ans_rx1_dr_offset_ack};
-ghost use Rattle.creators.specs.Image.{new_of, default_of, put_at, put_bytes};
+ghost use Rattle.creators.specs.Image.{default_of, put_at, put_bytes};
 
 use crate::creator::Creator;
 use crate::engine::flag;

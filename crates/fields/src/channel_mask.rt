@@ -42,7 +42,7 @@ impl<const N: usize> From<[u8; N]> for ChannelMask<N> {
 }
 
 impl<const N: usize> ChannelMask<N> {
-    // The first bytes of data, as many as the mask has.
+    // The first bytes of data, as many as the mask has. The Rust's name: a `TryFrom` beside it would be the same once more.
     pub fn new(data: &[u8]) -> Result<Self, Refusal>
         ensures { told (λ mask. mask.0) result ≡ mask_of N «data».now }
     {
@@ -50,6 +50,7 @@ impl<const N: usize> ChannelMask<N> {
         Ok(ChannelMask(*banks))
     }
 
+    // A method of its own: std's `AsRef` promises nothing of what it lends.
     pub fn as_ref(self) -> [u8; N]
         ensures { result ≡ self.entry.0 }
     {

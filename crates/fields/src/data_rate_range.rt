@@ -18,13 +18,14 @@ impl From<u8> for DataRateRange {
 }
 
 impl DataRateRange {
-    // Any byte, unchecked.
+    // Any byte, unchecked: `From` under the name that the Rust has.
     pub fn new_from_raw(byte: u8) -> Self
         ensures { result.0 ≡ byte }
     {
         DataRateRange(byte)
     }
 
+    // The Rust's name, and no `TryFrom`: for every type with a `From`, as here, the library has that already.
     pub fn new(byte: u8) -> Result<Self, Refusal>
         ensures { told (λ range. range.0) result ≡ range_of byte }
     {

@@ -14,6 +14,7 @@ impl From<u8> for DLSettings {
 }
 
 impl DLSettings {
+    // `From` under the name that the Rust has.
     pub fn new(byte: u8) -> Self
         ensures { result.0 ≡ byte }
     {

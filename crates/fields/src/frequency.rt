@@ -18,6 +18,7 @@ impl From<[u8; 3]> for Frequency {
 }
 
 impl Frequency {
+    // The Rust's name: a `TryFrom` beside it would be the same once more.
     pub fn new(bytes: &[u8]) -> Result<Self, Refusal>
         ensures { told bytes_of result ≡ exactly 3 bytes.now }
     {
@@ -33,6 +34,7 @@ impl Frequency {
         u32::from_le_bytes([low, middle, high, 0]) * 100
     }
 
+    // A method of its own: std's `AsRef` promises nothing of what it lends.
     pub fn as_ref(self) -> [u8; 3]
         ensures { result ≡ bytes_of self }
     {

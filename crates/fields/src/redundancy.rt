@@ -14,6 +14,7 @@ impl From<u8> for Redundancy {
 }
 
 impl Redundancy {
+    // `From` under the name that the Rust has.
     pub fn new(data: u8) -> Self
         ensures { result.0 ≡ «data» }
     {

@@ -2,7 +2,8 @@ ghost use Rattle.std.specs.Prelude.{◌≡◌};
 ghost use Rattle.table.specs.Table.{Command, flag_of};
 
 // What each payload type says of its command, as the table has it. Not `new`: as a method that the trait provides it would want of each type an
-// impl of From and two laws, and would be no plainer than its two lines there. Nor `bytes`, whose array has each type's own length.
+// impl of From and two laws, and would be no plainer than its two lines there. Nor `bytes`: a trait with the length as a const parameter could have it.
+// It was left: its twenty impls would repeat the types' own methods, which are public.
 pub trait CommandType {
     ghost command: { Command };
 

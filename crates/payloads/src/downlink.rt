@@ -30,7 +30,8 @@ pub enum DownlinkMacCommand {
     DeviceTimeAns(DeviceTimeAnsPayload),
 }
 
-// UplinkMacCommand has the same four methods: a trait of both would be one name more, and would save none of these arms.
+// UplinkMacCommand has the same four methods. A trait of both would be possible. It was left: its impls would repeat every arm below, or call these
+// methods, and both types stand in public signatures.
 impl DownlinkMacCommand {
     pub fn len(self) -> usize
         ensures { result ≡ (downlink_entry self).size }

@@ -34,8 +34,8 @@ impl CommandType for LinkADRReqPayload {
 impl From<[u8; 4]> for LinkADRReqPayload {
     ghost from_gives = { λ v r. link_adr_req_bytes r ≡ v };
 
-    fn from(v: [u8; 4]) -> Self {
-        LinkADRReqPayload(v[0], v[1], v[2], v[3])
+    fn from([a, b, c, d]: [u8; 4]) -> Self {
+        LinkADRReqPayload(a, b, c, d)
     }
 }
 

@@ -67,8 +67,8 @@ impl CommandType for LinkCheckAnsPayload {
 impl From<[u8; 2]> for LinkCheckAnsPayload {
     ghost from_gives = { λ v r. link_check_ans_bytes r ≡ v };
 
-    fn from(v: [u8; 2]) -> Self {
-        LinkCheckAnsPayload(v[0], v[1])
+    fn from([a, b]: [u8; 2]) -> Self {
+        LinkCheckAnsPayload(a, b)
     }
 }
 

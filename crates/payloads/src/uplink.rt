@@ -30,7 +30,8 @@ pub enum UplinkMacCommand {
     DeviceTimeReq(DeviceTimeReqPayload),
 }
 
-// DownlinkMacCommand has the same four methods: a trait of both would be one name more, and would save none of these arms.
+// DownlinkMacCommand has the same four methods. A trait of both would be possible. It was left: its impls would repeat every arm below, or call these
+// methods, and both types stand in public signatures.
 impl UplinkMacCommand {
     pub fn len(self) -> usize
         ensures { result ≡ (uplink_entry self).size }

@@ -45,7 +45,7 @@ pub enum Refusal {
 }
 
 impl Refusal {
-    // The refusal's number in docs/RULES.md.
+    // The refusal's number in docs/RULES.md. A method and no `From`: docs/CLAIMS.md names it.
     pub fn number(self) -> u8
         ensures { result ≡ number_of self }
     {

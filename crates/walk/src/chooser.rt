@@ -1,4 +1,5 @@
-// Which of the two places in a frame holds its MAC commands. A frame may have no port.
+// Which of the two places in a frame holds its MAC commands. A frame may have no port. FOpts, payload and port are three parameters and no struct:
+// that is what callers of the two public functions have.
 ghost use Rattle.std.specs.Prelude.{◌≡◌};
 ghost use Rattle.table.specs.Told.{told_verdict};
 ghost use Rattle.walk.specs.Chooser.{without_port, in_payload, in_both, verdict_of, chosen};

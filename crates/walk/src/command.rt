@@ -67,6 +67,7 @@ fn room_for(len: usize, left: usize) -> Result<(), Refusal>
     }
 }
 
+// The tests of step_at once more, and no call of it: the next offset would then come from the table's length, and each step wait for it (docs/SPEED.md).
 #[tactic(auto, using(crate::proofs::Steps::found_past, crate::proofs::Steps::found_end, crate::proofs::Steps::found_read, crate::proofs::Steps::found_no_room))]
 fn command_at<C: Sent>(stream: &[u8], at: usize) -> CommandStep<C>
     ensures { told_command_step C.cmd result ≡ found_at C.rule stream.now at }
@@ -81,7 +82,8 @@ fn command_at<C: Sent>(stream: &[u8], at: usize) -> CommandStep<C>
     match C::fits(cid, stream.len() - at) {
         Ok(()) => {
             let command = C::read(cid, &stream[at + 1..]);
-            // A constant in each arm of `read`: where the processor foresees the arm, it knows the next offset too.
+            // A constant in each arm of `read`: where the processor foresees the arm, it knows the next offset too
+            // (docs/SPEED.md).
             CommandStep::Command(command, at + 1 + command.payload_len())
         }
         Err(reason) => CommandStep::Stop { reason, at },
@@ -140,7 +142,7 @@ impl Sent for DownlinkMacCommand {
 
     // Each length is a constant in its CID's arm, and not read from the walk's table: so the compiler makes one jump of this `match` and of
     // those behind it, and where the processor foresees that jump, it waits for no length. (Up, where half the commands have no payload, it
-    // makes two.)
+    // makes two. Measured: docs/SPEED.md.)
     fn fits(cid: u8, left: usize) -> Result<(), Refusal> {
         match cid {
             0x02 => room_for(2, left),

@@ -23,7 +23,8 @@ struct Lanes {
     count: usize,
 }
 
-// A stream, and the rules that it is read by.
+// A stream, and the rules that it is read by. That an offset is in the stream stands in each contract below: a type for such offsets would have to hold
+// the stream too.
 #[derive(Clone, Copy)]
 struct Reading<'a> {
     rules: Rules,
@@ -63,12 +64,9 @@ impl Reading<'_> {
         requires { near + 6 ≤ length self.stream.now }
         ensures { result ≤ length self.entry.stream.now }
     {
-        for at in near..near + LONGEST {
-            if let Some(place) = self.behind_three(at) {
-                return place;
-            }
-        }
-        self.stream.len()
+        (near..near + LONGEST)
+            .find_map(|at| self.behind_three(at))
+            .unwrap_or(self.stream.len())
     }
 
     // The same as `behind`, where the stream has room for any command, and so without a test of the room.
@@ -91,6 +89,7 @@ impl Reading<'_> {
             × (result.second ≤ length self.entry.stream.now)
             × (result.third ≤ length self.entry.stream.now) }
     {
+        // No `for`, here and in `alone`: only a step tells where the next one is.
         let mut a: usize = 0;
         let mut b = second;
         let mut c = third;

@@ -1,4 +1,5 @@
-// A stream of MAC commands, taken apart: one step, the whole walk, and where in a frame the stream is.
+// A stream of MAC commands, taken apart: one step, the whole walk, and where in a frame the stream is. The public functions take rules and stream
+// as two parameters: as one struct, each call would put them together.
 #![tactic(auto)]
 
 pub mod chooser;

@@ -7,7 +7,7 @@ ghost use Rattle.walk.specs.Told.{told_step};
 
 use table::{Refusal, Rules};
 
-// What stands at an offset of a stream.
+// What stands at an offset of a stream. No CommandStep: a command has two numbers here, whose names its callers match.
 #[derive(Clone, Copy, PartialEq, Eq)]
 pub enum Step {
     // The stream's end.

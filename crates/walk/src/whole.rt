@@ -24,7 +24,7 @@ pub struct WalkEnd {
     pub count: usize,
 }
 
-// The walk from an offset on, step by step.
+// The walk from an offset on, step by step. No iterator goes over the steps: a proof speaks of the offset, a variable here.
 #[tactic(auto, using(crate::proofs::Steps::step_on, crate::proofs::Steps::tally_step))]
 pub fn walk_from(rules: Rules, stream: &[u8], from: usize) -> WalkEnd
     ensures { told_walk result ≡ tally_from (length_of rules) stream.now from }
