@@ -1,4 +1,3 @@
 pub mod Determined
-pub mod Fixing
 pub mod Iteration
 pub mod Packing
