@@ -19,7 +19,8 @@ pub enum BuildError {
 // The most records of a list.
 const MOST: usize = 4096;
 
-// The bytes that the records take. Behind them a record may be cut off, which counts as one and is refused.
+// The bytes that the records take. Behind them a record may be cut off, which counts as one and is refused. A flag tells so, as it does in the
+// definition of what is judged, `listed`.
 pub fn list_len<T: Holds>(rules: Rules, records: &[T], cut_off: bool) -> Result<usize, BuildError>
     ensures total { told_build result ≡ total_of (length_of rules) (listed (recs_held T.held records.now) cut_off) }
     ensures written { IfOk result (λ n. n ≡ length (encode (map cmd_of (recs_held T.held records.now)))) }

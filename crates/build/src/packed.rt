@@ -24,6 +24,7 @@ impl Holds for [u8; 8] {
     }
 }
 
+// This and the build below are public under these names (docs/CLAIMS.md); the loops are those of the list, for every form of record.
 // The bytes that the records take, or the build's refusal of the list. Bytes at the end that make no whole slot are a record too, cut off.
 pub fn mac_commands_len(rules: Rules, records: &[u8]) -> Result<usize, BuildError>
     ensures { told_build result ≡ total_of (length_of rules) (slots_of records.now) }

@@ -25,7 +25,7 @@ fn of_image(image: Image) -> Record
     Record::new(cid, image.len - 1, [a, b, c, d, e])
 }
 
-// Of a command there are two impls, one line each: the two directions' enums share no trait.
+// Of a command there are two impls, one line each: the two directions' enums share no trait that has both `cid` and `bytes`.
 impl From<UplinkMacCommand> for Record {
     ghost from_gives = { λ c r. r ≡ frameless (rec_of (uplink_cmd c)) };
 

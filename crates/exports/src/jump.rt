@@ -14,6 +14,7 @@ use jumps::{jump_to, make_entries};
 pub extern "C" fn nazhdivar_entries(stream: &[u8], numbers: &mut [u32]) -> u64
     ensures { (result, numbers.new) ≡ with_entries (made (length_of sent_down) stream.now numbers.old) }
 {
+    // One number, for C.
     match make_entries(DOWN, stream, numbers) {
         Ok(total) => total as u64,
         Err(reason) => (reason.number() as u64) * 4_294_967_296,
@@ -25,11 +26,9 @@ pub extern "C" fn nazhdivar_entries(stream: &[u8], numbers: &mut [u32]) -> u64
 pub extern "C" fn nazhdivar_jump(stream: &[u8], entries: &[u32], n: usize) -> u64
     ensures { result ≡ spot_in_one (jumped (length_of sent_down) stream.now entries.now n) }
 {
+    // One number, for C.
     match jump_to(DOWN, stream, entries, n) {
-        Ok(spot) => {
-            let high = (spot.at as u64) * 65_536;
-            high + (spot.cid as u64) * 256 + (spot.len as u64)
-        }
+        Ok(spot) => (spot.at as u64) * 65_536 + (spot.cid as u64) * 256 + (spot.len as u64),
         Err(reason) => reason.number() as u64,
     }
 }

@@ -11,6 +11,7 @@ use crate::DOWN;
 use listings::{listing_len, write_listing};
 use table::Refusal;
 
+// One number, for C.
 fn number(answer: Result<usize, Refusal>) -> u64
     ensures { result ≡ Listing·number (told_listing answer) }
 {

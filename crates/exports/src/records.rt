@@ -14,11 +14,11 @@ use build::{BuildError, build_mac_commands};
 pub extern "C" fn nazhdivar_build(records: &[u8], out: &mut [u8]) -> u64
     ensures { (result, out.new) ≡ with_one (build_of (length_of sent_down) (slots_of records.now) out.old) }
 {
+    // One number, for C.
     match build_mac_commands(DOWN, records, out) {
         Ok(total) => total as u64,
         Err(BuildError::At { reason, place }) => {
-            let high = (reason.number() as u64) * 4_294_967_296;
-            high + (place as u64)
+            (reason.number() as u64) * 4_294_967_296 + (place as u64)
         }
         Err(BuildError::Whole(reason)) => (reason.number() as u64) * 4_294_967_296,
     }

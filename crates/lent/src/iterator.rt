@@ -71,6 +71,7 @@ impl<'a> MacCommandIterator<'a> {
     }
 }
 
+// Two functions, a constant apart: these are the names that the Rust has (docs/PORT-OTHER.md).
 pub fn parse_uplink_mac_commands<'a>(data: &'a [u8]) -> MacCommandIterator<'a>
     ensures { result ≡ fresh «data».entry sent_up }
 {

@@ -1,4 +1,4 @@
-// Records that are lent as structs.
+// Records that are lent as structs. The functions are public under these names (docs/CLAIMS.md); the loops are those of the list in `build`.
 ghost use Rattle.std.specs.Prelude.{◌≡◌};
 ghost use Rattle.table.specs.Table.{length_of};
 ghost use Rattle.build.specs.Build.{total_of, build_of};
@@ -23,7 +23,7 @@ pub fn build_records(rules: Rules, records: &[Record], out: &mut [u8]) -> Result
     build_list(rules, records, false, out)
 }
 
-// `build_records` for callers that hold the records in an array.
+// `build_records` for callers that hold the records in an array: of four, and no const parameter, since docs/CLAIMS.md and its theorems name it so.
 pub fn build_four(rules: Rules, records: [Record; 4], out: &mut [u8]) -> Result<usize, BuildError>
     ensures { (told_build result, out.new) ≡ build_of (length_of rules) (items_of records) out.old }
 {

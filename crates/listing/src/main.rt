@@ -14,7 +14,8 @@ use table::{Direction, Rules};
 use text::put_bytes;
 
 // Reads to the input's end or the buffer's, however the pieces come, and answers how many bytes there were: none where a read failed, so
-// that no part of an input is taken for the whole. The buffer has room for the letter, the bytes, and one that is too many.
+// that no part of an input is taken for the whole. It is 0 and no `Result`: a failed read and no bytes get the same line. The buffer has
+// room for the letter, the bytes, and one that is too many.
 fn read_input(from: &mut impl Read, buf: &mut [u8]) -> usize
     requires { 1026 ≤ length buf.old }
     ensures { IsPrefixLen result buf.new }
@@ -31,6 +32,7 @@ fn read_input(from: &mut impl Read, buf: &mut [u8]) -> usize
     len
 }
 
+// `out` is a slice whose room each contract tells, and no `[u8; 30645]`: a must-fail edit makes it one short, which a fact has to refuse, and no type.
 fn put_bad(out: &mut [u8]) -> usize
     requires { 30645 ≤ length out.old }
     ensures { (result, out.new) ≡ at_front bad_input out.old }

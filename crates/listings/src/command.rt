@@ -41,13 +41,11 @@ impl<'a> Command<'a> {
         ensures cid { result.cid ≡ cid }
         ensures payload { result.payload.now ≡ body_at stream.now at len }
     {
-        let body = at + 1;
-        let next = body + len;
         Command {
             rules,
             at,
             cid,
-            payload: &stream[body..next],
+            payload: &stream[at + 1..at + 1 + len],
         }
     }
 
@@ -56,6 +54,7 @@ impl<'a> Command<'a> {
         ensures { result ≡ is_counted self.entry.rules self.entry.cid }
     {
         match self.rules.direction {
+            // By number, as everywhere: a CID is a byte of the stream, any of 256, and no enum.
             Direction::Down => self.cid == 0x03,
             Direction::Up => false,
         }

@@ -67,7 +67,8 @@ fn put_stop(out: &mut [u8], to: usize, at: usize, number: u8) -> usize
     put_byte(out, c, b'\n')
 }
 
-// Writes the line that a step is listed by, and answers the offset behind it.
+// Writes the line that a step is listed by, and answers the offset behind it. Seven parameters: a struct of rules, stream, offset and step would be
+// made at each step for this call and for `line_len` alone.
 pub(crate) fn put_line(
     rules: Rules,
     frame: u32,

@@ -1,4 +1,6 @@
 // The two passes over a stream: the text's length, and the text. Two loops, and no closure for what is done at a step: each has an invariant of its own.
+// Nor is there an iterator over the steps: the invariants speak of the offset, and the last step, an end or a stop, is listed too. Rules and stream are two
+// parameters, as the public functions below are asked for.
 ghost use Rattle.std.specs.Prelude.{◌≡◌, ◌≤◌, length};
 ghost use Rattle.bits.specs.Memory.{written_at};
 ghost use Rattle.listings.specs.Into.{largest, length_within, into};

@@ -23,6 +23,7 @@ pub fn put_decimal(out: &mut [u8], at: usize, n: usize) -> usize
     ensures { (result, out.new) ≡ written_at out.old at (decimal n) }
 {
     let k = decimal_len(n);
+    // Two tests, as in `put_bytes`.
     if out.len() < at {
         return at;
     }

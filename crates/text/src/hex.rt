@@ -30,6 +30,7 @@ pub fn put_hex(out: &mut [u8], at: usize, byte: u8) -> usize
 pub fn put_hexes(out: &mut [u8], at: usize, bytes: &[u8]) -> usize
     ensures { (result, out.new) ≡ written_at out.old at (hex_of bytes.now) }
 {
+    // Two tests, as in `put_bytes`.
     if out.len() < at {
         return at;
     }

@@ -8,6 +8,7 @@ ghost use Rattle.text.specs.Characters.{ascii};
 use crate::raw::put_bytes;
 use table::{Direction, Rules};
 
+// By number, and no enum: a CID is a byte of the stream, any of 256.
 // The letters of a CID's two commands, the one sent down and the one sent up: none for a byte that is no CID.
 #[tactic(auto, using(crate::proofs::Naming::ascii_cond, std::proofs::lemmas::Bool::Decides::nat_tests), unfolding(crate::specs::Characters::ascii))]
 fn names(cid: u8) -> (&'static [u8], &'static [u8])
