@@ -2,6 +2,7 @@
 use crate::answer::Answer;
 use crate::{creator_types, lists, masks, payload_types, small, streams};
 
+// By numbers, an entry's and then the kind's within it: they are read from a file, whose form has no other name for them.
 fn told(entry: u8, input: &[u8]) -> Answer {
     match entry / 16 {
         0 => small::answer(entry, input),

@@ -1,5 +1,7 @@
 // A line of cases, read a byte at a time: ENTRY CLASS INPUT ANSWER [RUST], separated by one space, bytes in capital hex, `-` for none.
 
+use crate::answer::put;
+
 // What is read of a line. Its bytes go to a lent buffer, one behind the other.
 #[derive(Clone, Copy)]
 pub(crate) struct Line {
@@ -46,17 +48,6 @@ fn digit(c: u8) -> Option<u8> {
 
 fn joined(high: u8, low: u8) -> u8 {
     high % 16 * 16 + low % 16
-}
-
-// Puts the byte at a place; the place after it, or the place itself where there is no room.
-fn put(bytes: &mut [u8], at: usize, b: u8) -> usize {
-    match bytes.get_mut(at) {
-        Some(place) => {
-            *place = b;
-            at + 1
-        }
-        None => at,
-    }
 }
 
 impl Line {
@@ -127,7 +118,7 @@ impl Line {
                 self.digit = low;
                 self
             }
-            (Some(high), Some(low)) => self.with_end(put(bytes, self.end, joined(high, low))),
+            (Some(high), Some(low)) => self.with_end(put(&[joined(high, low)], bytes, self.end)),
         }
     }
 

@@ -20,7 +20,8 @@ use line::{Asked, Line};
 use std::io;
 use std::io::Read;
 
-#[derive(Clone, Copy)]
+// How many cases agree and differ, and how many lines are not read.
+#[derive(Clone, Copy, Default)]
 struct Totals {
     agree: u64,
     differ: u64,
@@ -28,14 +29,6 @@ struct Totals {
 }
 
 impl Totals {
-    fn new() -> Totals {
-        Totals {
-            agree: 0,
-            differ: 0,
-            unread: 0,
-        }
-    }
-
     fn agreed(&mut self) {
         self.agree = self.agree.saturating_add(1);
     }
@@ -77,7 +70,7 @@ fn answered(
         None | Some([]) => totals.not_read(),
         Some(given) if given == case.wanted => totals.agreed(),
         Some(given) => {
-            report::print_difference(rt, case.entry, case.input, case.wanted, given)?;
+            report::print_difference(rt, case, given)?;
             totals.differed();
         }
     }
@@ -114,7 +107,7 @@ fn replay(
     bytes: &mut [u8],
     out: &mut [u8],
 ) -> io::Result<Totals> {
-    let mut totals = Totals::new();
+    let mut totals = Totals::default();
     let mut line = Line::new();
     // Nothing says that the input ends, so its parts are counted, up to a number that no run comes to.
     for _ in 0..u64::MAX {
@@ -142,5 +135,5 @@ fn main(rt: HostRuntime) -> io::Result<()> {
     let mut bytes = [0u8; 65536];
     let mut out = [0u8; 65536];
     let totals = replay(&rt, &mut rt.stdin(), &mut part, &mut bytes, &mut out)?;
-    report::print_summary(&rt, totals.agree, totals.differ, totals.unread)
+    report::print_summary(&rt, totals)
 }

@@ -24,18 +24,17 @@ fn answer<const N: usize>(which: u8, mask: ChannelMask<N>, input: &[u8]) -> Answ
     let i = index(rest);
     match which {
         0 => told_mask(Answer::new(), ChannelMask::<N>::default()),
-        1 => Answer::new().answered(ChannelMask::<N>::new(input), |told, mask| {
-            told_mask(told, mask)
-        }),
+        1 => Answer::new().answered(ChannelMask::<N>::new(input), told_mask::<N>),
         2 => told_mask(Answer::new(), mask),
-        3 => Answer::new().answered(mask.is_enabled(i), |told, on| told.flag(on)),
-        4 => Answer::new().answered(mask.get_index(i), |told, bank| told.byte(bank)),
+        3 => Answer::new().answered(mask.is_enabled(i), Answer::flag),
+        4 => Answer::new().answered(mask.get_index(i), Answer::byte),
         5 => with_bank(mask, i, byte(rest, 8)),
         6 => with_channel(mask, i, flag(rest, 8)),
         _ => Answer::new(),
     }
 }
 
+// Of each width by itself, as `statuses` is: its array has another length in each (fields/src/channel_mask.rt).
 pub(crate) fn width2(which: u8, input: &[u8]) -> Answer {
     let mask = ChannelMask2::from(first(input));
     match which {

@@ -25,6 +25,11 @@ fn sized<P: CommandType + Drop, F: FnOnce(Answer, P) -> Answer>(
     of_type::<P>().answered(payload, read)
 }
 
+// What a type without fields answers, whose `new` refuses nothing, and then the bytes of the payload that it makes.
+fn fieldless<P: CommandType>(bytes: [u8; 0]) -> Answer {
+    of_type::<P>().byte(0).all(&bytes)
+}
+
 fn max_duty_cycle_bits(p: DutyCycleReqPayload) -> u32 {
     f32::to_bits(p.max_duty_cycle())
 }
@@ -36,12 +41,6 @@ fn link_check_ans(input: &[u8]) -> Answer {
             .byte(p.margin())
             .byte(p.gateway_count())
     })
-}
-
-fn link_check_req(input: &[u8]) -> Answer {
-    of_type::<LinkCheckReqPayload>()
-        .byte(0)
-        .all(&LinkCheckReqPayload::new(input).bytes())
 }
 
 fn link_adr_req(input: &[u8]) -> Answer {
@@ -73,12 +72,6 @@ fn duty_cycle_req(input: &[u8]) -> Answer {
     })
 }
 
-fn duty_cycle_ans(input: &[u8]) -> Answer {
-    of_type::<DutyCycleAnsPayload>()
-        .byte(0)
-        .all(&DutyCycleAnsPayload::new(input).bytes())
-}
-
 fn rx_param_setup_req(input: &[u8]) -> Answer {
     sized(RXParamSetupReqPayload::new(input), |told, p| {
         told.all(&p.bytes())
@@ -95,12 +88,6 @@ fn rx_param_setup_ans(input: &[u8]) -> Answer {
             .flag(p.rx1_dr_offset_ack())
             .flag(p.ack())
     })
-}
-
-fn dev_status_req(input: &[u8]) -> Answer {
-    of_type::<DevStatusReqPayload>()
-        .byte(0)
-        .all(&DevStatusReqPayload::new(input).bytes())
 }
 
 fn dev_status_ans(input: &[u8]) -> Answer {
@@ -133,12 +120,6 @@ fn rx_timing_setup_req(input: &[u8]) -> Answer {
     })
 }
 
-fn rx_timing_setup_ans(input: &[u8]) -> Answer {
-    of_type::<RXTimingSetupAnsPayload>()
-        .byte(0)
-        .all(&RXTimingSetupAnsPayload::new(input).bytes())
-}
-
 fn tx_param_setup_req(input: &[u8]) -> Answer {
     sized(TXParamSetupReqPayload::new(input), |told, p| {
         told.all(&p.bytes())
@@ -146,12 +127,6 @@ fn tx_param_setup_req(input: &[u8]) -> Answer {
             .flag(p.uplink_dwell_time())
             .byte(p.max_eirp())
     })
-}
-
-fn tx_param_setup_ans(input: &[u8]) -> Answer {
-    of_type::<TXParamSetupAnsPayload>()
-        .byte(0)
-        .all(&TXParamSetupAnsPayload::new(input).bytes())
 }
 
 fn dl_channel_req(input: &[u8]) -> Answer {
@@ -179,35 +154,29 @@ fn device_time_ans(input: &[u8]) -> Answer {
     })
 }
 
-fn device_time_req(input: &[u8]) -> Answer {
-    of_type::<DeviceTimeReqPayload>()
-        .byte(0)
-        .all(&DeviceTimeReqPayload::new(input).bytes())
-}
-
 // Commands are numbered row by row of the table, the one that is sent down first.
 pub(crate) fn answer(command: u8, input: &[u8]) -> Answer {
     match command {
         0 => link_check_ans(input),
-        1 => link_check_req(input),
+        1 => fieldless::<LinkCheckReqPayload>(LinkCheckReqPayload::new(input).bytes()),
         2 => link_adr_req(input),
         3 => link_adr_ans(input),
         4 => duty_cycle_req(input),
-        5 => duty_cycle_ans(input),
+        5 => fieldless::<DutyCycleAnsPayload>(DutyCycleAnsPayload::new(input).bytes()),
         6 => rx_param_setup_req(input),
         7 => rx_param_setup_ans(input),
-        8 => dev_status_req(input),
+        8 => fieldless::<DevStatusReqPayload>(DevStatusReqPayload::new(input).bytes()),
         9 => dev_status_ans(input),
         10 => new_channel_req(input),
         11 => new_channel_ans(input),
         12 => rx_timing_setup_req(input),
-        13 => rx_timing_setup_ans(input),
+        13 => fieldless::<RXTimingSetupAnsPayload>(RXTimingSetupAnsPayload::new(input).bytes()),
         14 => tx_param_setup_req(input),
-        15 => tx_param_setup_ans(input),
+        15 => fieldless::<TXParamSetupAnsPayload>(TXParamSetupAnsPayload::new(input).bytes()),
         16 => dl_channel_req(input),
         17 => dl_channel_ans(input),
         18 => device_time_ans(input),
-        19 => device_time_req(input),
+        19 => fieldless::<DeviceTimeReqPayload>(DeviceTimeReqPayload::new(input).bytes()),
         _ => Answer::new(),
     }
 }

@@ -2,6 +2,7 @@
 ghost use Rattle.std.specs.Prelude.{◌<◌};
 
 use fields::{ChannelMask2, Frequency};
+use std::array;
 use table::{Direction, Rules};
 
 pub(crate) fn byte(s: &[u8], i: usize) -> u8 {
@@ -14,11 +15,7 @@ pub(crate) fn flag(s: &[u8], i: usize) -> bool {
 
 // The first bytes, as many as the array has.
 pub(crate) fn first<const N: usize>(s: &[u8]) -> [u8; N] {
-    let mut bytes = [0; N];
-    for i in 0..N {
-        bytes[i] = byte(s, i);
-    }
-    bytes
+    array::from_fn(|i| byte(s, i))
 }
 
 // What is left from a place on; nothing past the end.

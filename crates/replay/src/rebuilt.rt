@@ -9,7 +9,8 @@ const FRAME: u32 = 4_000_000_007;
 // A walk of more commands is not built again.
 const MOST: usize = 256;
 
-// Packs the record at an offset into slot i, and answers the offset after it. None where the record says another frame or offset.
+// Packs the record at an offset into slot i, and answers the offset after it. None where the record says another frame or offset. Rules and
+// stream stay two parameters, as the functions of `walk` and `build` take them.
 fn pack(rules: Rules, stream: &[u8], at: usize, slots: &mut [u8], i: usize) -> Option<usize> {
     let handed = record_at(rules, FRAME, stream, at);
     let record = handed.record;

@@ -1,4 +1,5 @@
 // What is printed: each case that differs, and a summary.
+use crate::{Case, Totals};
 use std::io;
 
 // Capital hex, `-` for no bytes.
@@ -13,27 +14,19 @@ fn print_bytes(rt: &impl Print, bytes: &[u8]) -> io::Result<()> {
 }
 
 // A case on which the port's answer is not the one wanted.
-pub(crate) fn print_difference(
-    rt: &impl Print,
-    entry: u8,
-    input: &[u8],
-    wanted: &[u8],
-    given: &[u8],
-) -> io::Result<()> {
-    print!(rt; "differs: {entry:02X} ")?;
-    print_bytes(rt, input)?;
+pub(crate) fn print_difference(rt: &impl Print, case: Case<'_>, given: &[u8]) -> io::Result<()> {
+    print!(rt; "differs: {:02X} ", case.entry)?;
+    print_bytes(rt, case.input)?;
     print!(rt; " wanted ")?;
-    print_bytes(rt, wanted)?;
+    print_bytes(rt, case.wanted)?;
     print!(rt; " given ")?;
     print_bytes(rt, given)?;
     println!(rt; "")
 }
 
-pub(crate) fn print_summary(
-    rt: &impl Print,
-    agree: u64,
-    differ: u64,
-    unread: u64,
-) -> io::Result<()> {
-    println!(rt; "{agree} cases agree, {differ} differ, {unread} lines not read")
+pub(crate) fn print_summary(rt: &impl Print, totals: Totals) -> io::Result<()> {
+    println!(rt;
+        "{} cases agree, {} differ, {} lines not read",
+        totals.agree, totals.differ, totals.unread
+    )
 }

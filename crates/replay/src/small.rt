@@ -21,21 +21,21 @@ fn told_range(told: Answer, r: DataRateRange) -> Answer {
         .byte(r.raw_value())
 }
 
-fn dl_settings(b: u8) -> Answer {
-    let told = told_settings(Answer::new(), DLSettings::new(b));
-    told_settings(told, DLSettings::from(b))
-}
-
-fn redundancy(b: u8) -> Answer {
-    let told = told_redundancy(Answer::new(), Redundancy::new(b));
-    told_redundancy(told, Redundancy::from(b))
+// What is told of a field that its constructor makes, and then of the one that From makes.
+fn both<T: Drop, F: Fn(Answer, T) -> Answer>(tell: F, made: T, converted: T) -> Answer
+    requires { F.IsAlwaysCallable tell }
+{
+    tell(tell(Answer::new(), made), converted)
 }
 
 fn data_rate_range(b: u8) -> Answer {
-    let told = told_range(Answer::new(), DataRateRange::new_from_raw(b));
-    let told = told_range(told, DataRateRange::from(b));
-    let told = told.verdict(DataRateRange::can_build_from(b));
-    told.answered(DataRateRange::new(b), |told, range| told_range(told, range))
+    let told = both(
+        told_range,
+        DataRateRange::new_from_raw(b),
+        DataRateRange::from(b),
+    );
+    told.verdict(DataRateRange::can_build_from(b))
+        .answered(DataRateRange::new(b), told_range)
 }
 
 fn frequency(input: &[u8]) -> Answer {
@@ -45,10 +45,11 @@ fn frequency(input: &[u8]) -> Answer {
 }
 
 pub(crate) fn answer(which: u8, input: &[u8]) -> Answer {
+    let b = byte(input, 0);
     match which {
-        1 => dl_settings(byte(input, 0)),
-        2 => redundancy(byte(input, 0)),
-        3 => data_rate_range(byte(input, 0)),
+        1 => both(told_settings, DLSettings::new(b), DLSettings::from(b)),
+        2 => both(told_redundancy, Redundancy::new(b), Redundancy::from(b)),
+        3 => data_rate_range(b),
         4 => frequency(input),
         _ => Answer::new(),
     }

@@ -49,6 +49,7 @@ fn told_payload(
         .only_where(alike)
 }
 
+// Two arms alike, since the two directions' enums share no trait (payloads/src/downlink.rt): a closure for each would be the same line twice.
 fn command_at(rules: Rules, stream: &[u8], at: usize) -> Answer {
     let told = Answer::new().two(at);
     match rules.direction {

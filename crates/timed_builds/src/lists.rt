@@ -13,10 +13,7 @@ use walk::{CommandStep, downlink_at};
 fn written(answer: Result<usize, BuildError>) -> u64
     ensures { result ≡ written (told_build answer) }
 {
-    match answer {
-        Ok(total) => total as u64,
-        Err(_) => 0,
-    }
+    answer.unwrap_or(0) as u64
 }
 
 // Builds the records in the first slots.
@@ -61,6 +58,7 @@ pub extern "C" fn nazhdivar_resend(stream: &[u8], slots: &mut [u8], out: &mut [u
 {
     let mut at = 0;
     let mut count = 0;
+    // A while, since there is no iterator over the steps: the proof speaks of the offset.
     while let CommandStep::Command(command, next) = downlink_at(stream, at) {
         Record::from(command).pack(slots, count);
         count += 1;

@@ -65,7 +65,7 @@ fn device_time_ans([a, b, c, d, e]: [u8; 5]) -> DeviceTimeAnsCreator {
     creator
 }
 
-// The creator that a CID names. A byte that is no CID of the table names DevStatusReq's.
+// The creator that a CID names, by number: it is a byte of what is read, any of 256. A byte that is no CID of the table names DevStatusReq's.
 fn set(cid: u8, b: [u8; 5]) -> DownlinkMacCommandCreator {
     match cid {
         0x02 => DownlinkMacCommandCreator::of(link_check_ans(b)),

@@ -129,6 +129,7 @@ pub extern "C" fn nazhdivar_fields(stream: &[u8]) -> u64
 {
     let mut at: usize = 0;
     let mut total: u64 = 0;
+    // A while, since there is no iterator over the steps: the proof speaks of the offset.
     while let DownlinkStep::Command(command, next) = downlink_at(stream, at) {
         total = (total + command_worth(command) % 4_294_967_296) % 4_294_967_296;
         at = next;

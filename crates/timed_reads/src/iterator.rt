@@ -21,8 +21,5 @@ fn is_command(found: Step) -> u64
 pub extern "C" fn nazhdivar_nth(stream: &[u8], n: usize) -> u64
     ensures { result ≡ is_command (nth_answer (length_of sent_down) stream.now n) }
 {
-    let rules = Rules {
-        direction: Direction::Down,
-    };
-    is_command(nth_step(rules, stream, n))
+    is_command(nth_step(Rules::new(Direction::Down), stream, n))
 }
