@@ -28,7 +28,10 @@ pub extern "C" fn nazhdivar_jump(stream: &[u8], entries: &[u32], n: usize) -> u6
 {
     // One number, for C.
     match jump_to(DOWN, stream, entries, n) {
-        Ok(spot) => (spot.at as u64) * 65_536 + (spot.cid as u64) * 256 + (spot.len as u64),
+        Ok(spot) => {
+            let high = (spot.at as u64) * 65_536;
+            high + (spot.cid as u64) * 256 + (spot.len as u64)
+        }
         Err(reason) => reason.number() as u64,
     }
 }
