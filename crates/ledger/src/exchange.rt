@@ -55,6 +55,7 @@ pub fn replay_trace(ledger: &mut Ledger, text: &[u8], list: &mut [u64]) -> Resul
 {
     let mut stream = [0; MOST_BYTES];
     let mut at = 0;
+    // No plainer as an iterator over lines: each would carry this offset, of which the proof speaks.
     while at < text.len() {
         let line = number_after(ledger.lines);
         match ledger.take_line(list, text, at, &mut stream) {

@@ -1,6 +1,6 @@
 // A line is judged before anything of it is written. In a line every command of a CID is a request, or every one an answer, so what its commands
 // will find is known from the open requests before it and from how many commands of each CID went before in the line.
-ghost use Rattle.std.specs.Prelude.{◌*◌, ◌%◌, ◌≡◌, ltb, length, drop};
+ghost use Rattle.std.specs.Prelude.{◌%◌, ◌≡◌, ltb, length, drop};
 ghost use mathlib.Core.List.{head?};
 ghost use Rattle.bits.specs.Bits.{bit_of};
 ghost use Rattle.ledger.specs.Events.{is_request, agrees_with};
@@ -88,6 +88,7 @@ impl Ledger {
         let mut seen = [0usize; CIDS];
         let mut left = room.saturating_sub(self.listed);
         let mut at: usize = 0;
+        // No plainer as an iterator: the proof speaks of the offset, which one would hide. The label is the loop's name in the proof.
         'commands: loop {
             match step_at(rules, stream, at) {
                 Step::Command { cid, next, .. } => {

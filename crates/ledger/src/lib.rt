@@ -20,6 +20,7 @@ pub use settings::Parent;
 
 #[derive(Clone, Copy)]
 pub struct Ledger {
+    // How many lines are counted and how many entries are listed, for callers to read.
     pub lines: u64,
     pub listed: usize,
     pending: [Queue; CIDS],

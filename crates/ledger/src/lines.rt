@@ -10,6 +10,8 @@ use table::Direction;
 // The most bytes of a stream.
 pub(crate) const MOST_BYTES: usize = 255;
 
+// Text and offset go together below. The slice behind the offset is no plainer: what is answered are offsets in the text, and each bound would
+// stand of the slice's length again.
 // The value of the number in front, and the offset behind it.
 #[derive(Clone, Copy)]
 struct Number {

@@ -16,6 +16,7 @@ pub(crate) const CIDS: usize = 16;
 pub(crate) const MOST_OPEN: usize = 8;
 
 // The rows of settings, by the request that writes them: one for each of five requests, and then one for each of the 16 channels of two more.
+// Numbers and no enum: they are indices of an array, and a channel's row is counted from that of channel 0.
 pub(crate) const LINK_ADR: usize = 0;
 
 pub(crate) const DUTY_CYCLE: usize = 1;
@@ -51,6 +52,7 @@ pub(crate) struct Asked {
 #[derive(Clone, Copy, Default)]
 pub(crate) struct Queue {
     requests: [Asked; MOST_OPEN],
+    // It has no bound of its own: the contracts speak of every ledger, and `open` cuts it at the room.
     count: usize,
 }
 

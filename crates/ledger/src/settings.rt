@@ -1,5 +1,5 @@
 // What a ledger holds of each setting: the request that set it, its parent, and what that request says, by the readers of its payload.
-ghost use Rattle.std.specs.Prelude.{◌<◌, [], ◌∷◌, ◌≡◌, ℕ, get_or, map};
+ghost use Rattle.std.specs.Prelude.{◌<◌, ◌≡◌, ℕ, get_or, map};
 ghost use Rattle.bits.specs.Bits.{bit_of};
 ghost use Rattle.fields.specs.Lists.{low_first};
 ghost use Rattle.ledger.specs.Asked.{in_hand};
@@ -45,7 +45,8 @@ pub struct Parent {
     pub unchanged: bool,
 }
 
-// The setting that is asked for, of a channel by its index.
+// The setting that is asked for, of a channel by its index. An enum and no closure: a contract names the setting by it (`setting_of`), for which
+// alone the channel is there.
 #[derive(Clone, Copy)]
 enum Which {
     DataRate,

@@ -38,6 +38,7 @@ impl Ledger {
     {
         let line = self.lines;
         let mut at: usize = 0;
+        // No plainer as an iterator: the proof speaks of the offset, which one would hide. The label is the loop's name in the proof.
         'commands: loop {
             let place = Place {
                 line,

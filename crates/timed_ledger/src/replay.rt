@@ -29,7 +29,7 @@ fn line_number(run: Result<(), BadLine>) -> u64
     }
 }
 
-// What a ledger holds of the setting with this number, of this channel where it is a channel's.
+// What a ledger holds of the setting with this number, of this channel where it is a channel's. A number, for C.
 fn ask(ledger: Ledger, setting: u8, channel: u8) -> Option<Parent>
     ensures { result ≡ asked_of (setting_by setting channel) (held_in ledger.held) }
 {
@@ -56,9 +56,10 @@ fn ask(ledger: Ledger, setting: u8, channel: u8) -> Option<Parent>
 fn bit(on: bool) -> u64
     ensures { result ≡ bit_of on }
 {
-    if on { 1 } else { 0 }
+    u64::from(on)
 }
 
+// One part of what there is to tell. All are numbers, for C, which gets one of them at a call.
 fn part_of(
     verdict: u64,
     line: u64,
