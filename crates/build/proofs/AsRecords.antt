@@ -24,6 +24,16 @@ five_is (a ∷ b ∷ c ∷ []) = refl
 five_is (a ∷ b ∷ c ∷ d ∷ []) = refl
 five_is (a ∷ b ∷ c ∷ d ∷ e ∷ rest) = refl
 
+-- they are all that a list of five has
+pub five_whole : (b : List ℕ) → length b ≡ 5 → five b ≡ b
+five_whole (a ∷ b ∷ c ∷ d ∷ e ∷ []) h = refl
+five_whole (a ∷ b ∷ c ∷ d ∷ e ∷ f ∷ rest) h = absurd (omega arith)
+five_whole [] h = absurd (omega arith)
+five_whole (a ∷ []) h = absurd (omega arith)
+five_whole (a ∷ b ∷ []) h = absurd (omega arith)
+five_whole (a ∷ b ∷ c ∷ []) h = absurd (omega arith)
+five_whole (a ∷ b ∷ c ∷ d ∷ []) h = absurd (omega arith)
+
 -- a payload of at most five bytes is the front of them
 pub five_front : (b : List ℕ) → length b ≤ 5 → take (length b) (take 5 (b ++ replicate 5 0)) ≡ b
 five_front [] h = refl

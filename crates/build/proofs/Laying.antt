@@ -5,13 +5,12 @@ use mathlib.Core.List.{List, [], ◌∷◌, ◌++◌, map, map-append, append-ni
 use native.Mathlib.Numerals.{add-one}
 use native.Mathlib.Omega.{arith}
 use lib.ListN.{length, get_or, take, drop, length-append, take-append-drop}
-use lib.Seq.{take-suc, take-length}
-use Rattle.bits.specs.Memory.{over, written_at}
-use Rattle.bits.proofs.Memory.{over_take, over_drop, over_length, over_front}
+use lib.Seq.{take-suc, take-length, take_all}
+use Rattle.bits.specs.Memory.{over}
+use Rattle.bits.proofs.Memory.{over_take, over_drop, over_length}
 use Rattle.walk.specs.Walk.{Cmd, encode}
 use Rattle.build.specs.Records.{Rec, cmd_of, command_bytes}
 use Rattle.build.specs.Laying.{LaidAt}
-use Rattle.build.proofs.Writes.{exactly_laid}
 
 -- the bytes of the first i records
 abbrev pub front : List Rec → ℕ → List ℕ
@@ -27,7 +26,7 @@ encode_append (c ∷ cs) ds =
     (ap (λ (l : List ℕ). c.body ++ l) (encode_append cs ds) ∙ sym (append_assoc c.body (encode cs) (encode ds)))
 
 module _ (rs : List Rec) where
-  front_more : (i : ℕ) (d : Rec) → i < length rs → front rs (suc i) ≡ front rs i ++ command_bytes (get_or rs i d)
+  pub front_more : (i : ℕ) (d : Rec) → i < length rs → front rs (suc i) ≡ front rs i ++ command_bytes (get_or rs i d)
   front_more i d h =
       ap (λ (l : List Rec). encode (map cmd_of l)) (take-suc rs i d h)
       ∙ ap encode (map-append cmd_of (take i rs) (get_or rs i d ∷ []))
@@ -91,17 +90,19 @@ module _ (rs : List Rec) where
           let e : length o' ≡ length out = ap length n.memory ∙ over_length o at w room ∙ k in
           subst (λ (x : ℕ). Laid out x next o') (sym (add-one i)) (record { behind = a; before = b; rest = c; long = e })
 
-    pub laid_more : {i at : ℕ} {o : List ℕ} (next : ℕ) (o' : List ℕ) (d : Rec) → i < length rs → Laid out i at o
-        → ◌≡◌ {A = ℕ × List ℕ} (next, o') (written_at o at (command_bytes (get_or rs i d))) → Laid out (i + 1) next o'
-    laid_more {i} {at} {o} next o' d h l e =
-        laid_next d h l next o' (exactly_laid o at (get_or rs i d) (length (all rs)) next o' (laid_room d h l) (let k = l.long in omega arith) e)
+    -- the record that comes next, in memory that all of them fill
+    module _ {i at : ℕ} {o : List ℕ} (r : Rec) (h : i < length rs) (here : get_or rs i r ≡ r) (full : length out ≡ length (all rs)) (l : Laid out i at o) where
+      pub room_here : at + length (command_bytes r) ≤ length o
+      room_here = omega (arith, laid_room r h l, ap (λ (x : Rec). length (command_bytes x)) here, l.long)
 
-    pub laid_all : {i at : ℕ} {o : List ℕ} → i ≡ length rs → Laid out i at o → o ≡ over out 0 (all rs)
-    laid_all {i} {at} {o} e l =
+      pub laid_here : (next : ℕ) (o' : List ℕ) → LaidAt o at (length o) r next o' → Laid out (i + 1) next o'
+      laid_here next o' n =
+          laid_next r h l next o'
+          (subst (λ (x : Rec). LaidAt o at (length (all rs)) x next o') (sym here) (subst (λ (e : ℕ). LaidAt o at e r next o') (l.long ∙ full) n))
+
+    -- all of them fill memory that has room for no more
+    pub laid_all : {i at : ℕ} {o : List ℕ} → i ≡ length rs → length out ≡ length (all rs) → Laid out i at o → o ≡ all rs
+    laid_all {i} {at} {o} e n l =
         let f : front rs i ≡ all rs = ap (λ (l : List Rec). encode (map cmd_of l)) (ap (λ (k : ℕ). take k rs) e ∙ take-length rs) in
-        let n : at ≡ length (all rs) = l.behind ∙ ap length f in
-        sym (take-append-drop at o)
-        ∙ ap (λ (x : List ℕ). x ++ drop at o) (l.before ∙ f)
-        ∙ ap (λ (k : ℕ). all rs ++ drop k o) n
-        ∙ ap (λ (x : List ℕ). all rs ++ x) l.rest
-        ∙ sym (over_front out (all rs))
+        let whole : length o ≤ at = omega (arith, l.behind, ap length f, l.long) in
+        sym (take_all at o whole) ∙ l.before ∙ f

@@ -3,6 +3,7 @@ pub mod Determined
 pub mod Equal
 pub mod Judging
 pub mod Laying
+pub mod Listed
 pub mod Slots
 pub mod Sums
 pub mod ThereAndBack

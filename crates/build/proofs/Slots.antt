@@ -1,22 +1,21 @@
 -- The slots of packed records, one by one. Assumes nothing.
-use Prim.Native.Nat.{ℕ, zero, suc, ◌+◌, ◌/◌, ◌%◌, ◌<◌}
-use mathlib.Core.Path.{◌≡◌, refl, sym, ap, ◌∙◌}
-use mathlib.Core.Bool.{Bool, true, false, cond}
-use mathlib.Core.List.{List, [], ◌∷◌, ◌++◌, map, append-nil}
+use Prim.Native.Nat.{ℕ, zero, suc, ◌+◌, ◌*◌, ◌/◌, ◌%◌, ◌<◌}
+use mathlib.Core.Path.{◌≡◌, refl, sym, ap, ap₂, ◌∙◌}
+use mathlib.Core.Bool.{Bool, true, false, cond, not}
+use mathlib.Core.List.{List, [], ◌∷◌, ◌++◌, map}
 use native.Mathlib.Nat.{add-zero}
 use native.Mathlib.Omega.{arith}
 use lib.Dec.{eqb}
-use lib.ListN.{length, get_or, drop, length-append, length-map, drop_of_length-le, get_or-append, get_or-map}
-use lib.Seq.{drop-cons, drop_at}
-use borrow.Author.Tests.{eq-eqb, ne_eqb}
+use lib.ListN.{length, get_or, take, drop, length-append, length-map, get_or-append, get_or-map}
+use lib.Seq.{drop-cons, drop_at, get_or-take, get_or-drop}
+use Rattle.std.specs.Simd.{first_chunks}
 use Rattle.table.specs.declared.rules.Rules.{Rules}
 use Rattle.table.specs.Table.{length_of}
 use Rattle.table.proofs.Lengths.{at_most_five}
 use Rattle.fields.specs.Lists.{tabulate}
-use Rattle.fields.proofs.Lists.{length_tabulate, get_d_tabulate}
 use Rattle.walk.specs.Walk.{Cmd}
 use Rattle.build.specs.ThereAndBack.{Full}
-use Rattle.build.specs.Records.{Rec, Item, whole, part, cmd_of, cmds_of, slot_at, whole_slots, slots_of}
+use Rattle.build.specs.Records.{Rec, Item, whole, part, cmd_of, cmds_of, slot_at, slots_of, listed}
 
 -- whole records, and what stands behind them
 pub record_at : (rs : List Rec) (tail : List Item) (i : ℕ) (d : Rec) → i < length rs
@@ -31,57 +30,40 @@ record_at rs tail i d h =
 pub behind_records : (rs : List Rec) (tail : List Item) (i : ℕ) → i ≡ length rs → drop i (map whole rs ++ tail) ≡ tail
 behind_records rs tail i e = drop_at (map whole rs) tail i (length-map rs whole ∙ sym e)
 
-module _ (s : List ℕ) where
-  pub slots_length : length (whole_slots s) ≡ length s / 8
-  slots_length = length_tabulate (length s / 8) (slot_at s)
+-- what a slot has is known from its seven bytes
+pub slot_same : (s t : List ℕ) (i j : ℕ) → ((k : ℕ) → k < 7 → get_or s (8 * i + k) 0 ≡ get_or t (8 * j + k) 0) → slot_at s i ≡ slot_at t j
+slot_same s t i j h =
+    let z : get_or s (8 * i) 0 ≡ get_or t (8 * j) 0 =
+    ap (λ (k : ℕ). get_or s k 0) (sym (add-zero (8 * i))) ∙ h 0 (omega arith) ∙ ap (λ (k : ℕ). get_or t k 0) (add-zero (8 * j)) in
+    simp (z, h 1 (omega arith), h 2 (omega arith), h 3 (omega arith), h 4 (omega arith), h 5 (omega arith), h 6 (omega arith))
 
-  pub slot_in : (i : ℕ) → i < length s / 8 → get_or (whole_slots s) i (slot_at s i) ≡ slot_at s i
-  slot_in i h = get_d_tabulate (length s / 8) (slot_at s) i (slot_at s i) h
+-- eight bytes at a time are the slots
+pub slots_chunked : (n : ℕ) (s : List ℕ) → map (λ (c : List ℕ). slot_at c 0) (first_chunks 8 n s) ≡ tabulate n (slot_at s)
+unfolding tabulate
+slots_chunked zero s = refl
+slots_chunked (suc n) s =
+    ap₂ (λ (r : Rec) (rs : List Rec). r ∷ rs)
+    (slot_same (take 8 s) s 0 0 (λ k l. get_or-take 8 s (8 * 0 + k) 0 (omega arith)))
+    (slots_chunked n (drop 8 s) ∙ ap (tabulate n) (λ i k. behind k i))
+  where
+    behind : (k : ℕ) → slot_at (drop 8 s) k ≡ slot_at s (suc k)
+    behind k = slot_same (drop 8 s) s k (suc k) (λ j l. get_or-drop 8 s (8 * k + j) 0 ∙ ap (λ (m : ℕ). get_or s m 0) (omega arith))
 
-  pub slot-at : (i : ℕ) → i < length s / 8 → drop i (slots_of s) ≡ whole (slot_at s i) ∷ drop (suc i) (slots_of s)
-  slot-at i h =
-      let n = slots_length in
-      record_at (whole_slots s) _ i (slot_at s i) (omega arith)
-      ∙ ap (λ (r : Rec). whole r ∷ drop (suc i) (slots_of s)) (slot_in i h)
-
-  -- how many there are
-  pub slots_no_part : length s % 8 ≡ 0 → length (slots_of s) ≡ length s / 8
-  slots_no_part e =
-      length-append (map whole (whole_slots s)) (cond (eqb (length s % 8) 0) [] (part ∷ []))
-      ∙ ap (λ (b : Bool). length (map whole (whole_slots s)) + length (cond b [] (part ∷ []))) (eq-eqb (length s % 8) 0 e)
-      ∙ ap (λ (n : ℕ). n + 0) (length-map (whole_slots s) whole ∙ slots_length)
-      ∙ add-zero (length s / 8)
-
-  pub slots_a_part : (length s % 8 ≡ 0 → ⊥) → length (slots_of s) ≡ length s / 8 + 1
-  slots_a_part h =
-      length-append (map whole (whole_slots s)) (cond (eqb (length s % 8) 0) [] (part ∷ []))
-      ∙ ap (λ (b : Bool). length (map whole (whole_slots s)) + length (cond b [] (part ∷ []))) (ne_eqb (length s % 8) 0 h)
-      ∙ ap (λ (n : ℕ). n + 1) (length-map (whole_slots s) whole ∙ slots_length)
-
-  -- behind the whole slots: nothing, or a part
-  pub no_part : length s % 8 ≡ 0 → drop (length s / 8) (slots_of s) ≡ []
-  no_part e =
-      behind_records (whole_slots s) _ (length s / 8) (sym slots_length)
-      ∙ ap (λ (b : Bool). cond b [] (part ∷ [])) (eq-eqb (length s % 8) 0 e)
-
-  pub a_part : (length s % 8 ≡ 0 → ⊥) → drop (length s / 8) (slots_of s) ≡ part ∷ drop (suc (length s / 8)) (slots_of s)
-  a_part h =
-      let t : drop (length s / 8) (slots_of s) ≡ part ∷ [] =
-      behind_records (whole_slots s) _ (length s / 8) (sym slots_length)
-      ∙ ap (λ (b : Bool). cond b [] (part ∷ [])) (ne_eqb (length s % 8) 0 h) in
-      t ∙ ap (λ (l : List Item). part ∷ l) (sym (drop_of_length-le (slots_of s) {i = suc (length s / 8)} (omega (arith, slots_a_part h))))
+-- so a list of them, with what is left behind them, is the list of slots
+pub slots_listed : (s rest : List ℕ) (chunks : List (List ℕ)) → chunks ≡ first_chunks 8 (length s / 8) s → length rest ≡ length s % 8
+    → listed (map (λ (c : List ℕ). slot_at c 0) chunks) (not (eqb (length rest) 0)) ≡ slots_of s
+slots_listed s rest chunks e n =
+    ap₂ (λ (cs : List (List ℕ)) (k : ℕ). listed (map (λ (c : List ℕ). slot_at c 0) cs) (not (eqb k 0))) e n
+    ∙ ap₂ (λ (rs : List Rec) (xs : List Item). map whole rs ++ xs) (slots_chunked (length s / 8) s) (flipped (eqb (length s % 8) 0))
+  where
+    flipped : (b : Bool) → cond {A = List Item} (not b) (part ∷ []) [] ≡ cond b [] (part ∷ [])
+    flipped true = refl
+    flipped false = refl
 
 -- the commands of whole records
 pub cmds_of_whole : (rs : List Rec) (tail : List Item) → cmds_of (map whole rs ++ tail) ≡ map cmd_of rs ++ cmds_of tail
 cmds_of_whole [] tail = refl
 cmds_of_whole (r ∷ rs) tail = ap (λ (l : List Cmd). cmd_of r ∷ l) (cmds_of_whole rs tail)
-
-pub cmds_of_slots : (s : List ℕ) → cmds_of (slots_of s) ≡ map cmd_of (whole_slots s)
-cmds_of_slots s = cmds_of_whole (whole_slots s) _ ∙ ap (λ (l : List Cmd). map cmd_of (whole_slots s) ++ l) (tail_none (eqb (length s % 8) 0)) ∙ append-nil (map cmd_of (whole_slots s))
-  where
-    tail_none : (b : Bool) → cmds_of (cond b [] (part ∷ [])) ≡ []
-    tail_none true = refl
-    tail_none false = refl
 
 -- a slot's record has five bytes, and no payload of the table is longer
 slot_full : (rules : Rules) (n : ℕ) (f : ℕ → Rec) → ((i : ℕ) → length (f i).bytes ≡ 5) → (tail : List Item) → Full (length_of rules) tail

@@ -10,6 +10,7 @@ use native.Mathlib.Omega.{arith}
 use lib.ListN.{length, take, drop, length-append}
 use lib.Seq.{length-take-le, take-append_seam, drop-append_seam}
 use borrow.Author.Tests.{le-leb, lt-leb}
+use Rattle.std.specs.Prelude.{Err}
 use Rattle.bits.specs.Memory.{over}
 use Rattle.table.specs.Answers.{Answer, given}
 use Rattle.table.specs.Answers as Answers
@@ -19,7 +20,7 @@ use Rattle.build.specs.Records.{Item, whole, part, recs_in, cmds_of, judged}
 use Rattle.build.specs.Build.{Built, total, refused_at, refused, next, sum_from, total_of, fill, build_of}
 use Rattle.build.specs.Equal.{EqualLists, as_rec}
 use Rattle.build.specs.Told.{told_build}
-use Rattle.build.specs.declared.packed.BuildAnswer.{BuildAnswer}
+use Rattle.build.specs.declared.list.BuildError.{BuildError}
 use Rattle.build.specs.ThereAndBack.{Commands, Full, BuildThenWalk, Accepts, LengthIsWritten, EqualBytesEqualLists}
 use Rattle.build.proofs.Equal.{commands_equal, its_commands}
 use Rattle.build.proofs.Judging.{judged_given, judged_known}
@@ -99,11 +100,9 @@ module _ (L : Rule) (xs : List Item) where
         ∙ ap (λ (b : Bool). cond b (total n, over out 0 (encode (cmds_of xs))) (refused 4, out)) (lt-leb n (length out) h)
 
     -- and after a refusal of the list: as it was
-    pub kept : (answer is : BuildAnswer) → answer ≡ is → told_build answer ≡ total_of L xs → fill (told_build is) (encode (cmds_of xs)) out ≡ (told_build is, out)
-        → (told_build answer, out) ≡ build_of L xs out
-    kept answer is e told refuses =
-        let t = ap told_build e in
-        ap (λ (b : Built). (b, out)) t ∙ sym refuses ∙ ap (λ (b : Built). fill b (encode (cmds_of xs)) out) (sym t ∙ told)
+    pub kept : (e : BuildError) → told_build (Err e) ≡ total_of L xs → (told_build (Err e), out) ≡ build_of L xs out
+    kept (BuildError.At r place) t = ap (λ (b : Built). fill b (encode (cmds_of xs)) out) t
+    kept (BuildError.Whole r) t = ap (λ (b : Built). fill b (encode (cmds_of xs)) out) t
 
     pub built : length xs ≤ 4096 → Commands L xs → length (encode (cmds_of xs)) ≤ length out
         → build_of L xs out ≡ (total (length (encode (cmds_of xs))), over out 0 (encode (cmds_of xs)))

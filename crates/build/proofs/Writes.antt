@@ -1,12 +1,12 @@
 -- A record's bytes written over lent memory. Assumes nothing.
-use Prim.Native.Nat.{ℕ, suc, ◌+◌, ◌*◌, ◌/◌, ◌<◌, ◌≤◌}
+use Prim.Native.Nat.{ℕ, suc, ◌+◌, ◌-◌, ◌*◌, ◌/◌, ◌<◌, ◌≤◌}
 use mathlib.Core.Path.{◌≡◌, sym, ap, ◌∙◌, subst}
 use mathlib.Core.List.{List, [], ◌∷◌, ◌++◌, append_assoc, append-nil}
 use native.Mathlib.Numerals.{add-one}
 use native.Mathlib.Omega.{arith}
-use lib.ListN.{length, take, drop, set, take-append-drop, length-append}
-use lib.Seq.{take-suc-set, drop-set-lt, take-append_seam, length-take-le, take-length, paste}
-use borrow.Author.Tests.{lt-ltb, le-ltb}
+use lib.ListN.{length, get_or, take, drop, set, take-append-drop, length-append}
+use lib.Seq.{take-suc-set, drop-set-lt, take-append_seam, length-take-le, paste, paste-suc}
+use borrow.Author.Tests.{lt-ltb}
 use Rattle.bits.specs.Memory.{over, written_at}
 use Rattle.bits.proofs.Memory.{room}
 use Rattle.build.specs.Records.{Rec, command_bytes, len_byte, packed_at}
@@ -35,6 +35,21 @@ stored_pasted out at c p n h l =
     ∙ ap (λ (x : List ℕ). take at out ++ (c ∷ []) ++ take n p ++ x) behind
     ∙ append_assoc (take at out ++ (c ∷ [])) (take n p) (drop (at + suc (length (take n p))) out)
     ∙ append_assoc (take at out) (c ∷ []) (take n p ++ drop (at + suc (length (take n p))) out)
+
+-- the front of a list written byte by byte, where n bytes count: of the first i those are i - (i - n), the lesser of i and n
+module _ (d s : List ℕ) (at n i : ℕ) (o : List ℕ) where
+  pub one_counts : i < n → at + n ≤ length d → n ≤ length s → o ≡ paste d at s (i - (i - n)) → set o (at + i) (get_or s i 0) ≡ paste d at s (i + 1 - (i + 1 - n))
+  one_counts h room some e =
+      let all : i - (i - n) ≡ i = omega arith in
+      let next : suc i ≡ i + 1 - (i + 1 - n) = omega arith in
+      ap (λ (p : List ℕ). set p (at + i) (get_or s i 0)) (e ∙ ap (paste d at s) all)
+      ∙ paste-suc d at s i 0 (omega arith) (omega arith)
+      ∙ ap (paste d at s) next
+
+  pub none_counts : n ≤ i → o ≡ paste d at s (i - (i - n)) → o ≡ paste d at s (i + 1 - (i + 1 - n))
+  none_counts h e =
+      let same : i - (i - n) ≡ i + 1 - (i + 1 - n) = omega arith in
+      e ∙ ap (paste d at s) same
 
 module _ (out : List ℕ) (at : ℕ) (r : Rec) where
   -- the CID stored, and the payload pasted behind it
@@ -73,18 +88,7 @@ module _ (out : List ℕ) (at : ℕ) (r : Rec) where
         within = omega (arith, ap length all);
       }
 
--- a list pasted whole
-pub pasted_whole : (out : List ℕ) (at : ℕ) (p : List ℕ) (n : ℕ) → length p ≡ n → paste out at p n ≡ over out at p
-pasted_whole out at p n e =
-    ap (paste out at p) (sym e)
-    ∙ ap (λ (x : List ℕ). take at out ++ x ++ drop (at + length p) out) (take-length p)
-    ∙ append_assoc (take at out) p (drop (at + length p) out)
-
 module _ (s : List ℕ) (i : ℕ) (r : Rec) where
   pub packed_in : i < length s / 8 → over s (8 * i) (r.cid ∷ len_byte r.len ∷ r.bytes) ≡ packed_at s i r
   unfolding packed_at
   packed_in h = simp (lt-ltb i (length s / 8) h)
-
-  pub packed_out : length s / 8 ≤ i → s ≡ packed_at s i r
-  unfolding packed_at
-  packed_out h = simp (le-ltb i (length s / 8) h)

@@ -1,5 +1,5 @@
 -- Commands as records (RULES: B1, B4): a CID, a length, and payload bytes, of which none behind the length counts.
-use Rattle.std.specs.Prelude.{ℕ, ◌+◌, ◌-◌, ◌*◌, ◌/◌, ◌%◌, cond, List, [], ◌∷◌, ◌++◌, map, eqb, ltb, length, get_or, take, replicate}
+use Rattle.std.specs.Prelude.{ℕ, Bool, ◌+◌, ◌-◌, ◌*◌, ◌/◌, ◌%◌, cond, List, [], ◌∷◌, ◌++◌, map, eqb, ltb, length, get_or, take, replicate}
 use Rattle.std.proofs.Math.Option.{Option, none, some}
 use Rattle.bits.specs.Memory.{over}
 use Rattle.table.specs.Answers.{Answer, given, refused}
@@ -89,6 +89,14 @@ slot_at s i = record {
 
 abbrev pub whole_slots : List ℕ → List Rec
 whole_slots s = tabulate (length s / 8) (slot_at s)
+
+-- the records of values that each hold one
+abbrev pub recs_held : {X : Type 0} → (X → Record) → List X → List Rec
+recs_held held xs = map (λ x. held_by (held x)) xs
+
+-- whole records, and behind them a part, where one is cut off
+abbrev pub listed : List Rec → Bool → List Item
+listed rs cut_off = map whole rs ++ cond cut_off (part ∷ []) []
 
 -- all the slots, and behind them a part, where bytes are left that make no slot (RULES: H2)
 abbrev pub slots_of : List ℕ → List Item

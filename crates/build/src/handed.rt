@@ -9,42 +9,26 @@ use crate::record::Record;
 use table::Rules;
 use walk::{Step, step_at};
 
-// What stands at an offset of a stream, and the record of it where it is a command. Else the record is that of no command.
+// What stands at an offset of a stream, and the record of it where it is a command. Else the record is that of no command. The two stand side by
+// side, and no `Option` has the record, since the definition of what is handed out, `handed_at`, and the claims on it speak of both.
 #[derive(Clone, Copy)]
 pub struct Handed {
     pub step: Step,
     pub record: Record,
 }
 
-// Byte i of a payload; 0 past its length.
-fn payload_byte(stream: &[u8], body: usize, len: usize, i: usize) -> u8
-    requires { body + len ≤ length stream.now }
-    ensures { result ≡ get_or (take len (drop body stream.now)) i 0 }
-{
-    if i < len {
-        let at = body + i;
-        stream[at]
-    } else {
-        0
-    }
-}
-
-// The record of a command that stands at an offset with its whole payload.
+// The record of a command that stands at an offset with its whole payload. Its bytes past the payload's end are 0.
 fn from_frame(frame: u32, stream: &[u8], at: usize, cid: u8, len: usize) -> Record
     requires { at + 1 + len ≤ length stream.now }
     ensures { result ≡ from_frame frame (placed at cid (take len (drop (at + 1) stream.now))) }
 {
-    let body = at + 1;
-    let payload = [
-        payload_byte(stream, body, len, 0),
-        payload_byte(stream, body, len, 1),
-        payload_byte(stream, body, len, 2),
-        payload_byte(stream, body, len, 3),
-        payload_byte(stream, body, len, 4),
-    ];
+    let body = &stream[at + 1..at + 1 + len];
+    let byte = |i: usize| -> u8
+        ensures { result ≡ get_or body.entry.now i 0 }
+    { body.get(i).copied().unwrap_or(0) };
     Record {
         cid,
-        payload,
+        payload: [byte(0), byte(1), byte(2), byte(3), byte(4)],
         frame,
         len,
         offset: at,
@@ -57,19 +41,11 @@ pub fn record_at(rules: Rules, frame: u32, stream: &[u8], at: usize) -> Handed
 {
     let step = step_at(rules, stream, at);
     match step {
-        Step::Command { cid, len, next: _ } => {
-            let record = from_frame(frame, stream, at, cid, len);
-            Handed { step, record }
-        }
-        Step::End => Handed {
+        Step::Command { cid, len, .. } => Handed {
             step,
-            record: Record::none(),
+            record: from_frame(frame, stream, at, cid, len),
         },
-        Step::Stop { reason: _, at: _ } => Handed {
-            step,
-            record: Record::none(),
-        },
-        Step::Refused(_) => Handed {
+        Step::End | Step::Stop { .. } | Step::Refused(_) => Handed {
             step,
             record: Record::none(),
         },

@@ -2,10 +2,12 @@
 #![tactic(auto)]
 
 pub mod handed;
+pub mod list;
 pub mod packed;
 pub mod record;
 pub mod sources;
 
 pub use handed::{Handed, record_at};
-pub use packed::{BuildAnswer, build_mac_commands, mac_commands_len};
-pub use record::{Judged, Record};
+pub use list::{BuildError, build_list, list_len};
+pub use packed::{build_mac_commands, mac_commands_len};
+pub use record::{Holds, Record};

@@ -1,17 +1,15 @@
-ghost use Rattle.std.specs.Prelude.{◌≡◌, ℕ, ◌+◌, ◌≤◌, length, take};
-ghost use Rattle.std.proofs.Math.Option.{some};
-ghost use Rattle.std.proofs.Math.Seq.{paste};
-ghost use Rattle.bits.specs.Memory.{written_at};
+ghost use Rattle.std.specs.Prelude.{◌≡◌, ◌+◌, ◌≤◌, length, take};
+ghost use Rattle.bits.specs.Memory.{over, written_at};
 ghost use Rattle.table.specs.Table.{length_of};
-ghost use Rattle.table.specs.Told.{told_length};
-ghost use Rattle.build.specs.Records.{measured as measuredBy, judged, held_by, frameless, command_bytes, packed_at, len_byte, no_record};
+ghost use Rattle.build.specs.Records.{judged, held_by, frameless, command_bytes, packed_at, len_byte, no_record};
 ghost use Rattle.build.specs.Laying.{LaidAt};
 ghost use Rattle.build.specs.Told.{told_judged};
 
-use table::{Length, Refusal, Rules};
+use table::{Refusal, Rules};
 
 // A command: its CID, up to five payload bytes, and how many of them count; and where it came from: a frame's number, and the offset of the
 // CID in that frame's stream. What is written of it is the command alone. The fields stand in an order that leaves few gaps in memory.
+// The bytes are an array with a length beside it, since a payload has memory of its own and there is no heap.
 #[derive(Clone, Copy)]
 pub struct Record {
     pub cid: u8,
@@ -19,13 +17,6 @@ pub struct Record {
     pub frame: u32,
     pub len: usize,
     pub offset: usize,
-}
-
-// A record held against a book of rules: the bytes that its command takes, CID included, or why it is refused.
-#[derive(Clone, Copy)]
-pub enum Judged {
-    Size(usize),
-    Refused(Refusal),
 }
 
 impl Record {
@@ -49,31 +40,29 @@ impl Record {
         Record::new(0, 0, [0; 5])
     }
 
-    pub fn judge(self, rules: Rules) -> Judged
+    // The bytes that its command takes, CID included. The length that the record states is judged, and not where it came from.
+    pub fn judge(self, rules: Rules) -> Result<usize, Refusal>
         ensures { told_judged result ≡ judged (length_of rules) (held_by self) }
     {
-        let length = rules.payload_len(self.cid);
-        let len = self.stated();
-        measured(length, len)
-    }
-
-    // The length that the record states, which alone is judged: not where it came from.
-    fn stated(self) -> usize
-        ensures { result ≡ self.len }
-    {
-        self.len
+        let len = rules
+            .payload_len(self.cid)
+            .ok_or(Refusal::UnknownMacCommand)?;
+        if self.len != len {
+            return Err(Refusal::WrongLength);
+        }
+        Ok(1 + len)
     }
 
     // The payload bytes that count: those before the length.
     fn counted(self) -> usize
         ensures { result ≡ length (take self.len self.payload) }
     {
-        let len = self.len;
-        if len < 5 { len } else { 5 }
+        self.len.min(5)
     }
 
     // Writes CID and payload at an offset, and answers the offset behind them. Where there is no room for them, nothing is written,
     // and the answer is the offset itself.
+    #[tactic(auto, using(bits::proofs::Memory::no_room))]
     pub fn write(self, out: &mut [u8], at: usize) -> usize
         ensures { (result, out.new) ≡ written_at out.old at (command_bytes (held_by self)) }
     {
@@ -85,60 +74,61 @@ impl Record {
         if out.len() - body < n {
             return at;
         }
-        let payload = self.payload;
         out[at] = self.cid;
-        copy(&payload, n, out, body);
+        // Over all five bytes, so that the compiler unrolls it. Tried and slower: of `copy_from_slice` of the n it makes a call, which
+        // costs a list of four commands 6 instructions more for each.
+        for (i, byte) in self.payload.iter().enumerate() {
+            if i < n {
+                out[body + i] = *byte;
+            }
+        }
         body + n
     }
 
-    // Writes CID and payload at an offset, among commands that are written up to `end`, and answers the offset behind them. Where there is
-    // room before `end`, all five payload bytes are written, and the commands that follow cover those that don't count: a copy that
-    // ends with the length makes the processor guess the length.
-    pub(crate) fn lay(self, out: &mut [u8], at: usize, end: usize) -> usize
-        requires self_bound { at + length (command_bytes (held_by self)) ≤ end }
-        requires end_in_bounds { end ≤ length out.old }
-        ensures { LaidAt out.old at end (held_by self) result out.new }
+    // Writes CID and payload at an offset, among commands that fill `out`, and answers the offset behind them. Where there is room,
+    // all five payload bytes are written, and the commands that follow cover those that don't count: a copy that ends with the length
+    // makes the processor guess the length.
+    #[tactic(auto, using(crate::proofs::Writes::exactly_laid))]
+    pub(crate) fn lay(self, out: &mut [u8], at: usize) -> usize
+        requires { at + length (command_bytes (held_by self)) ≤ length out.old }
+        ensures { LaidAt out.old at (length out.old) (held_by self) result out.new }
     {
-        if 6 <= end - at {
-            let p = self.payload;
-            let bytes = [self.cid, p[0], p[1], p[2], p[3], p[4]];
-            copy(&bytes, 6, out, at);
-            let body = at + 1;
-            let n = self.counted();
-            body + n
+        if 6 <= out.len() - at {
+            let [a, b, c, d, e] = self.payload;
+            put(&[self.cid, a, b, c, d, e], out, at);
+            at + 1 + self.counted()
         } else {
             self.write(out, at)
         }
     }
 
     // Puts the record into slot i of packed records; the slot's eighth byte stays. Where there is no such slot, nothing is written.
+    #[tactic(auto, unfolding(crate::specs::Records::packed_at))]
     pub fn pack(self, slots: &mut [u8], i: usize)
         ensures { slots.new ≡ packed_at slots.old i (held_by self) }
     {
         if i < slots.len() / 8 {
-            let at = 8 * i;
-            let n = len_byte(self.len);
-            let p = self.payload;
-            let bytes = [self.cid, n, p[0], p[1], p[2], p[3], p[4]];
-            copy(&bytes, 7, slots, at);
+            let [a, b, c, d, e] = self.payload;
+            put(&[self.cid, len_byte(self.len), a, b, c, d, e], slots, 8 * i);
         }
     }
 }
 
-// A record's length, held against what the table says of its CID: five bytes at most.
-fn measured(length: Length, len: usize) -> Judged
-    requires { (n : ℕ) → told_length length ≡ some n → n ≤ 5 }
-    ensures { told_judged result ≡ measuredBy (told_length length) len }
-{
-    match length {
-        Length::Unknown => Judged::Refused(Refusal::UnknownMacCommand),
-        Length::Known(n) => {
-            if len == n {
-                Judged::Size(1 + n)
-            } else {
-                Judged::Refused(Refusal::WrongLength)
-            }
-        }
+// A value that holds one record.
+pub trait Holds {
+    ghost use Rattle.build.specs.declared.record.Record.{Record};
+
+    ghost held: { Self → Record };
+
+    fn record(&self) -> Record
+        ensures { result ≡ held self.now };
+}
+
+impl Holds for Record {
+    ghost held = { λ r. r };
+
+    fn record(&self) -> Record {
+        *self
     }
 }
 
@@ -146,21 +136,16 @@ fn measured(length: Length, len: usize) -> Judged
 fn len_byte(len: usize) -> u8
     ensures { result ≡ len_byte len }
 {
-    if len < 256 { len as u8 } else { 255 }
+    u8::try_from(len).unwrap_or(255)
 }
 
-// The first n of the bytes, put over those of out from an offset on. The loop goes over all bytes, whose number each caller knows, so that the
-// compiler unrolls it: of one that ends with n it makes a call.
-fn copy(bytes: &[u8], n: usize, out: &mut [u8], at: usize)
-    requires n_in_bounds { n ≤ length bytes.now }
-    requires n_in_bounds_2 { at + n ≤ length out.old }
-    ensures { out.new ≡ paste out.old at bytes.now n }
+// Bytes put over those of out from an offset on: as many as the type says, so that the compiler unrolls the loop. Tried and slower: of
+// `copy_from_slice` it makes a test whether the two overlap, and a way over the stack.
+fn put<const N: usize>(bytes: &[u8; N], out: &mut [u8], at: usize)
+    requires { at + N ≤ length out.old }
+    ensures { out.new ≡ over out.old at bytes.now }
 {
-    let mut j = 0;
-    while j < bytes.len() {
-        if j < n {
-            out[at + j] = bytes[j];
-        }
-        j += 1;
+    for (i, byte) in bytes.iter().enumerate() {
+        out[at + i] = *byte;
     }
 }

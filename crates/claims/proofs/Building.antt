@@ -26,7 +26,6 @@ use Rattle.lent.specs.Records.{items_of}
 use Rattle.claims.specs.Building.{Five, Builder, SlotsBuilt, StructsBuilt, FourBuilt, SlotsLength, StructsLength, FromSlots, from_slots, FromStructs, from_structs, FromFour, from_four, LenOfSlots, of_slots, LenOfStructs, of_structs, IsRefusal, StandsFor, RefusedKeeps, BuiltReadsBack, AcceptsExactly, SameBytesSameList, LengthAgrees, same, no_room, LengthForBuild, BuildsAsDefined, RightBuild, Builds}
 use Rattle.claims.specs.Building as Building
 use Rattle.claims.specs.Handing.{ReadAs}
-use Rattle.claims.proofs.ByHand.{by_hand}
 use Rattle.claims.proofs.Handing.{reads}
 use Rattle.claims.proofs.Lists.{every_list_built}
 
@@ -47,17 +46,17 @@ slots_say rules _ _ _ _ (Building.built slots out r after g) = ap (λ (o : List 
 
 pub structs_say : (rules : Rules) (records : List Record) (before after : List ℕ) (a : Built) → StructsBuilt rules records before a after
     → ◌≡◌ {A = Built × List ℕ} (a, after) (build_of (length_of rules) (items_of records) before)
-structs_say rules _ _ _ _ (Building.built records out r κs exit q) = (by_hand.build_records κs rules records out r exit).0 q
+structs_say rules _ _ _ _ (Building.built records out r after g) = ap (λ (o : List ℕ). (_, o)) (sym g.1.1.1) ∙ g.1.1.0
 
 pub four_says : (rules : Rules) (records : List Record) (before after : List ℕ) (a : Built) → FourBuilt rules records before a after
     → ◌≡◌ {A = Built × List ℕ} (a, after) (build_of (length_of rules) (items_of records) before)
-four_says rules _ _ _ _ (Building.built records out r κs exit q) = (by_hand.build_four κs rules records out r exit).0 q
+four_says rules _ _ _ _ (Building.built records out r after g) = ap (λ (o : List ℕ). (_, o)) (sym g.1.1.1) ∙ g.1.1.0
 
 pub slots_length_says : (rules : Rules) (slots : List ℕ) (a : Built) → SlotsLength rules slots a → a ≡ total_of (length_of rules) (slots_of slots)
 slots_length_says rules _ _ (Building.asked slots r g) = g.1.1
 
 pub structs_length_says : (rules : Rules) (records : List Record) (a : Built) → StructsLength rules records a → a ≡ total_of (length_of rules) (items_of records)
-structs_length_says rules _ _ (Building.asked records r κs exit q) = (by_hand.records_len κs rules records r exit).0 q
+structs_length_says rules _ _ (Building.asked records r g) = g.1.1
 
 pub slots_defined : BuildsAsDefined FromSlots
 slots_defined rules _ before after a (from_slots slots b) = record { says = slots_say rules slots before after a b; full = slots_full rules slots }
@@ -169,7 +168,7 @@ agrees (total n) bytes before = by (dec_le n (length before))
 agrees (refused_at k place) bytes before = same refl
 agrees (refused k) bytes before = same refl
 
-length_for_build : (Len : Rules → List Item → Built → Type 2) → ((rules : Rules) (xs : List Item) (l : Built) → Len rules xs l → l ≡ total_of (length_of rules) xs)
+length_for_build : (Len : Rules → List Item → Built → Type 0) → ((rules : Rules) (xs : List Item) (l : Built) → Len rules xs l → l ≡ total_of (length_of rules) xs)
     → (B : Builder) → BuildsAsDefined B → LengthForBuild Len B
 length_for_build Len len B d rules xs before after l a x b =
     let e : a ≡ (fill l (encode (cmds_of xs)) before).0 =

@@ -2,7 +2,7 @@
 use Prim.Native.Nat.{ℕ, zero, suc}
 use mathlib.Core.List.{List}
 use mathlib.Core.Logic.{∥∥₁_elim}
-use mathlib.Core.Path.{◌≡◌, refl, sym, ◌∙◌}
+use mathlib.Core.Path.{◌≡◌, refl}
 use base.Logic.{ent, emp, id⊢}
 use base.Stored.{Coded, Coded-set, coded_ℕ, coded×, coded_list, coded_via}
 use contract.BorrowModel.{logic₀}

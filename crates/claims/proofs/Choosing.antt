@@ -9,19 +9,20 @@ use lib.Dec.{ltb, eqb}
 use lib.ListN.{length}
 use borrow.Author.Tests.{lt-ltb, le-ltb, ltb-true, eqb-true}
 use denote.Ref.{Bor}
+use Rattle.std.specs.Prelude.{Result}
+use Rattle.std.specs.Prelude as Std
 use Rattle.table.specs.Answers.{Consent, refused, accepted}
 use Rattle.table.specs.Told.{told_verdict}
-use Rattle.table.specs.declared.refusal.Verdict.{Verdict}
+use Rattle.table.specs.declared.refusal.Refusal.{Refusal}
 use Rattle.walk.specs.Chooser.{non_empty, is_none, is_zero, without_port, too_long, in_payload, in_both, verdict_of, by_verdict}
 use Rattle.walk.specs.Part.{shown}
 use Rattle.walk.specs.Told.{told_port}
-use Rattle.walk.specs.declared.chooser.Port.{Port}
 use Rattle.walk.proofs.chooser.choose.Reads as choose
 use Rattle.walk.proofs.chooser.choose_verdict.Reads as choose_verdict
 use Rattle.claims.specs.Choosing.{WithoutPort, InPayload, RightVerdict, Chosen, Chooser}
 use Rattle.claims.specs.Outcomes.{Gives}
 
-module _ (fopts payload : Bor (List ℕ)) (port : Port) where
+module _ (fopts payload : Bor (List ℕ)) (port : Std.Option ℕ) where
   -- ---- the tests of the definition, by what they say
 
   without : WithoutPort payload port → without_port (told_port port) payload.now ≡ true
@@ -52,7 +53,7 @@ module _ (fopts payload : Bor (List ℕ)) (port : Port) where
 
   -- port 0 is a port
   has_port : InPayload payload port → WithoutPort payload port → ⊥
-  has_port i w = let e : ◌≡◌ {A = Option ℕ} none (some 0) = sym w.no_port ∙ i.port_zero in let z : ◌≡◌ {A = ℕ} 0 1 = cc in omega arith
+  has_port i w = let e : ◌≡◌ {A = Option ℕ} none (some 0) = sym w.no_port ∙ i.port_zero in cc
 
   -- the verdict, by the three tests
   abbrev by_tests : Bool → Bool → Bool → Consent
@@ -73,14 +74,14 @@ module _ (fopts payload : Bor (List ℕ)) (port : Port) where
   not_both h = by (in_payload (told_port port) payload.now) refl (non_empty fopts.now) refl
     where
       held : in_payload (told_port port) payload.now ≡ true → (InPayload payload port → ⊥) → ⊥
-      held e n = let q : true ≡ false = sym e ∙ elsewhere n in let z : ◌≡◌ {A = ℕ} 0 1 = cc in omega arith
+      held e n = let q : true ≡ false = sym e ∙ elsewhere n in cc
 
       by : (i : Bool) → in_payload (told_port port) payload.now ≡ i → (n : Bool) → non_empty fopts.now ≡ n → in_both (told_port port) fopts.now payload.now ≡ false
       by true e true f = absurd (held e (λ i. let z = h i in let l = ltb-true 0 (length fopts.now) f in omega arith))
       by true e false f = both true false e f
       by false e n f = both false n e f
 
-  judged : (v : Verdict) → Gives choose_verdict.Post (fopts, (payload, (port, tt))) v → RightVerdict fopts payload port v
+  judged : (v : Result Unit Refusal) → Gives choose_verdict.Post (fopts, (payload, (port, tt))) v → RightVerdict fopts payload port v
   judged v g = record {
     without_port = λ w. g.1.1 ∙ tests true (too_long fopts.now) (in_both (told_port port) fopts.now payload.now) (without w) refl refl;
     too_long = λ w l. g.1.1 ∙ tests false true (in_both (told_port port) fopts.now payload.now) (with_port w) (lt-ltb 15 (length fopts.now) l) refl;
@@ -89,7 +90,7 @@ module _ (fopts payload : Bor (List ℕ)) (port : Port) where
     accepts = λ w l i. g.1.1 ∙ tests false false false (with_port w) (le-ltb 15 (length fopts.now) l) (not_both i);
   }
 
-  part : (v : Verdict) (r : Bor (List ℕ)) → Gives choose_verdict.Post (fopts, (payload, (port, tt))) v → Gives choose.Post (fopts, (payload, (port, tt))) r
+  part : (v : Result Unit Refusal) (r : Bor (List ℕ)) → Gives choose_verdict.Post (fopts, (payload, (port, tt))) v → Gives choose.Post (fopts, (payload, (port, tt))) r
       → Chosen fopts payload port v r
   part v r g q = record {
     from_payload = λ a i. at accepted a ∙ ap (λ (b : Bool). cond b (shown payload) (shown fopts)) (there i);

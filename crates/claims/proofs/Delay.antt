@@ -7,9 +7,12 @@ use mathlib.Core.Path.{◌≡◌, refl, sym, ap, ◌∙◌, subst}
 use native.Mathlib.Decide.{dec_le}
 use native.Mathlib.Omega.{arith}
 use lib.ListN.{length, get_or, set, drop, length-drop}
+use Rattle.std.specs.Prelude.{Result, Ok, Err}
 use Rattle.bits.specs.Bits.{set_field}
 use Rattle.bits.proofs.Each.{Each, each}
 use Rattle.table.specs.Answers.{given}
+use Rattle.table.specs.Told.{told}
+use Rattle.table.specs.declared.refusal.Refusal.{Refusal}
 use Rattle.table.specs.declared.rules.Direction.TheVariants.{Down}
 use Rattle.text.specs.Characters.{ascii}
 use Rattle.text.specs.Decimal.{decimal, digits}
@@ -20,9 +23,7 @@ use Rattle.fields.specs.Places.{rx_timing_setup_req_delay}
 use Rattle.fields.proofs.Lists.{exactly_given}
 use Rattle.payloads.specs.Bytes.{rx_timing_setup_req_bytes}
 use Rattle.payloads.specs.Meanings.{delay_of}
-use Rattle.payloads.specs.Told.{told_rx_timing_setup_req}
-use Rattle.payloads.specs.declared.rx_timing_setup.RXTimingSetupReqAnswer.{RXTimingSetupReqAnswer}
-use Rattle.payloads.specs.declared.rx_timing_setup.RXTimingSetupReqAnswer.TheVariants as RXTimingSetupReqAnswer
+use Rattle.payloads.specs.declared.rx_timing_setup.RXTimingSetupReqPayload.{RXTimingSetupReqPayload}
 use Rattle.payloads.proofs.Low.{low}
 use Rattle.walk.specs.Walk.{go}
 use Rattle.listings.specs.Listing.{lines_of, listing_of}
@@ -35,9 +36,9 @@ use Rattle.ledger.specs.Events.{Event, events}
 use Rattle.ledger.specs.Parents.{Shown}
 use Rattle.ledger.specs.Settings.{delay, says}
 use Rattle.claims.specs.Delay.{delays, HasDelay, ReadWithDelay, SameSeconds, ExactDelay, listing_with, DelayTells}
-use Rattle.claims.specs.Ledger.{told_held}
+use Rattle.claims.specs.Ledger.{told_parent}
 use Rattle.claims.specs.Listing.{TextIs}
-use Rattle.claims.proofs.Keeping.{both, refusals_keep}
+use Rattle.claims.proofs.Keeping.{both, verdict_with, refusals_keep}
 use Rattle.claims.proofs.Listing.{written_all}
 
 -- ---- what a code stands for
@@ -73,9 +74,9 @@ written_nibble : (image : List ℕ) (code : ℕ) → put_at rx_timing_setup_req_
 unfolding put_at
 written_nibble image code = let e : set_field 0 4 (get_or image 1 0) code ≡ get_or image 1 0 / 16 * 16 + code = omega arith in ap (set image 1) e
 
-read_with : (bytes : List ℕ) (s : ℕ) → delay_of bytes ≡ s → (a : RXTimingSetupReqAnswer) → told_rx_timing_setup_req a ≡ given bytes → ReadWithDelay s a
-read_with bytes s e (RXTimingSetupReqAnswer.Read p) t = λ r g. let same : rx_timing_setup_req_bytes p ≡ bytes = cc in g.1.1 ∙ ap delay_of same ∙ e
-read_with bytes s e (RXTimingSetupReqAnswer.Refused n) t = let z : ◌≡◌ {A = ℕ} 0 1 = cc in omega arith
+read_with : (bytes : List ℕ) (s : ℕ) → delay_of bytes ≡ s → (a : Result RXTimingSetupReqPayload Refusal) → told rx_timing_setup_req_bytes a ≡ given bytes → ReadWithDelay s a
+read_with bytes s e (Ok p) t = λ r g. let same : rx_timing_setup_req_bytes p ≡ bytes = cc in g.1.1 ∙ ap delay_of same ∙ e
+read_with bytes s e (Err n) t = cc
 
 -- ---- the ledger
 
@@ -122,22 +123,22 @@ pub delay_tells : DelayTells
 delay_tells = record {
   read = read;
   within = λ b r g. (omega (arith, g.1.1), omega (arith, g.1.1));
-  written = λ c code d small set_to.
-      let kept = (refusals_keep.delay c code d set_to).accepts (λ over. omega arith) in
-      (kept.0, ap (λ (x : RXTimingSetupReqCreator). x.«data») kept.1 ∙ written_nibble c.«data» code);
-  set_is_read = λ c code d image payload a long small set_to built same new.
-      let e = both set_to.1.1 in
-      let kept = (refusals_keep.delay c code d set_to).accepts (λ over. omega arith) in
-      let size : length d.creator.«data» ≡ 2 =
-      ap (λ (x : RXTimingSetupReqCreator). length x.«data») kept.1 ∙ length_put rx_timing_setup_req_delay c.«data» code ∙ long in
-      let seconds : delay_of (drop 1 d.creator.«data») ≡ max 1 code =
-      ap (λ (i : List ℕ). delay_of (drop 1 i)) e.1 ∙ delay_reads c.«data» code (omega arith) (sym e.0 ∙ kept.0) in
-      let here : payload.now ≡ drop 1 d.creator.«data» = same ∙ ap (drop 1) built.1.1 in
-      let one : length (drop 1 d.creator.«data») ≡ 1 = length-drop 1 d.creator.«data» ∙ (omega (arith, size)) in
-      read_with (drop 1 d.creator.«data») (get_or delays code 0) (seconds ∙ in_table code small) a
-      (new.1.1 ∙ ap (exactly 1) here ∙ exactly_given 1 (drop 1 d.creator.«data») one);
+  written = λ c code r d small set_to.
+      let kept = (refusals_keep.delay c code r d set_to).accepts (λ over. omega arith) in
+      (kept.0, ap (λ (x : RXTimingSetupReqCreator). x.«data») kept.1 ∙ written_nibble c.now.«data» code);
+  set_is_read = λ c code r d image payload a long small set_to built same new.
+      let e = both (verdict_with (λ (x : RXTimingSetupReqCreator). x.«data») r set_to.1.1.0 set_to.1.1.1) in
+      let kept = (refusals_keep.delay c code r d set_to).accepts (λ over. omega arith) in
+      let size : length d.«data» ≡ 2 =
+      ap (λ (x : RXTimingSetupReqCreator). length x.«data») kept.1 ∙ length_put rx_timing_setup_req_delay c.now.«data» code ∙ long in
+      let seconds : delay_of (drop 1 d.«data») ≡ max 1 code =
+      ap (λ (i : List ℕ). delay_of (drop 1 i)) e.1 ∙ delay_reads c.now.«data» code (omega arith) (sym e.0 ∙ kept.0) in
+      let here : payload.now ≡ drop 1 d.«data» = same ∙ ap (drop 1) built.1.1 in
+      let one : length (drop 1 d.«data») ≡ 1 = length-drop 1 d.«data» ∙ (omega (arith, size)) in
+      read_with (drop 1 d.«data») (get_or delays code 0) (seconds ∙ in_table code small) a
+      (new.1.1 ∙ ap (exactly 1) here ∙ exactly_given 1 (drop 1 d.«data») one);
   ledger_reads = λ body r g. sym g.1.1;
-  held = λ lines lent l after h t asks. exact_delay (reverse (events 0 lines)) (told_held h) (t.parents delay h asks);
+  held = λ lines lent l after h t asks. exact_delay (reverse (events 0 lines)) (told_parent h) (t.parents delay h asks);
   sent = λ b bytes g. g.1.1;
   in-listing = λ b frame stream e.
       subst (TextIs (record { direction = Down }) frame stream) (ap (listing_of (record { direction = Down }) frame) e ∙ one_command b frame)

@@ -19,19 +19,19 @@ use Rattle.claims.proofs.Time.{time_tells}
 pub demands : Demands
 demands = record {
   refusals_keep = refusals_keep;
-  masks_tell = record { so = masks_tell };
-  flags_tell = record { so = flags_tell };
-  time_tells = record { so = time_tells };
-  duty_cycle_tells = record { so = duty_cycle_tells };
-  delay_tells = record { so = delay_tells };
+  masks_tell = masks_tell;
+  flags_tell = flags_tell;
+  time_tells = time_tells;
+  duty_cycle_tells = duty_cycle_tells;
+  delay_tells = delay_tells;
   examples = examples_hold;
   one_owner = one_owner;
   next_is_step = next_is_step;
   origins_tell = origins_tell;
   builds = builds;
   by_hand = by_hand;
-  chooser = record { so = chooser };
-  jumps_tell = record { so = jumps_tell };
+  chooser = chooser;
+  jumps_tell = jumps_tell;
   listings_tell = listings_tell;
   ledger_tells = ledger_tells examples_held;
 }

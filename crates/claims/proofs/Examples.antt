@@ -3,10 +3,12 @@ use Prim.Native.Nat.{ℕ}
 use mathlib.Core.Bool.{Bool}
 use mathlib.Core.List.{List, [], ◌∷◌, ◌++◌, map}
 use mathlib.Core.Path.{◌≡◌, refl, ap, ◌∙◌, subst}
-use native.Mathlib.Omega.{arith}
+use Rattle.std.specs.Prelude.{Result, Ok, Err}
 use Rattle.bits.specs.Every.{Every}
 use Rattle.table.specs.Answers.{given, refused, accepted}
 use Rattle.table.specs.Table.{length_of, named}
+use Rattle.table.specs.Told.{told}
+use Rattle.table.specs.declared.refusal.Refusal.{Refusal}
 use Rattle.table.specs.declared.rules.Direction.TheVariants.{Up}
 use Rattle.table.specs.declared.rules.Rules.{Rules}
 use Rattle.fields.specs.Frequency.{bytes_of, hertz}
@@ -14,9 +16,7 @@ use Rattle.fields.specs.Lists.{exactly, tabulate}
 use Rattle.fields.specs.Mask.{enabled_of, set_channel}
 use Rattle.fields.specs.Places.{tx_param_setup_req_max_eirp, tx_param_setup_req_downlink_dwell_time}
 use Rattle.fields.specs.Settings.{range_of}
-use Rattle.fields.specs.Told.{told_frequency}
-use Rattle.fields.specs.declared.frequency.FrequencyAnswer.{FrequencyAnswer}
-use Rattle.fields.specs.declared.frequency.FrequencyAnswer.TheVariants as FrequencyAnswer
+use Rattle.fields.specs.declared.frequency.Frequency.{Frequency}
 use Rattle.payloads.specs.Acceptance.{link_adr_ans_accepts, new_channel_ans_accepts, dl_channel_ans_accepts}
 use Rattle.payloads.specs.Meanings.{margin_of, max_eirp_of, seconds_of}
 use Rattle.creators.specs.Image.{new_of, put_at, put_bytes, checked_at}
@@ -63,7 +63,7 @@ use Rattle.claims.specs.Examples.{
 use Rattle.claims.specs.Handing.{ReadAs, HandsOut, record_steps, record_iterator}
 use Rattle.claims.proofs.Building.{slots_defined, structs_defined}
 use Rattle.claims.proofs.Handing as Handing
-use Rattle.claims.proofs.Keeping.{both}
+use Rattle.claims.proofs.Keeping.{both, verdict_with}
 use Rattle.claims.proofs.Origins.{records_of_the_walk}
 
 abbrev rule : Answering → List ℕ → Bool
@@ -97,9 +97,9 @@ Means (channel_set m c on v after) = set_channel m c on ≡ (v, after)
 Means (range b r) = range_of b ≡ r
 
 -- three bytes that are a frequency
-in-hertz : (bytes : List ℕ) (hz : ℕ) → hertz bytes ≡ hz → (a : FrequencyAnswer) → told_frequency a ≡ given bytes → InHertz hz a
-in-hertz bytes hz e (FrequencyAnswer.Read f) t = λ r g. let same : bytes_of f ≡ bytes = cc in g.1.1 ∙ ap hertz same ∙ e
-in-hertz bytes hz e (FrequencyAnswer.Refused n) t = let z : ◌≡◌ {A = ℕ} 0 1 = cc in omega arith
+in-hertz : (bytes : List ℕ) (hz : ℕ) → hertz bytes ≡ hz → (a : Result Frequency Refusal) → told bytes_of a ≡ given bytes → InHertz hz a
+in-hertz bytes hz e (Ok f) t = λ r g. let same : bytes_of f ≡ bytes = cc in g.1.1 ∙ ap hertz same ∙ e
+in-hertz bytes hz e (Err n) t = cc
 
 says_so : (a : Answering) (b : ℕ) (it : Bool) → rule a (b ∷ []) ≡ it → Says a b it
 says_so LinkADRAns b it e = λ r g. g.1.1 ∙ e
@@ -122,38 +122,34 @@ of_functions (hands d frame bytes records ending) e = λ stream same.
       by_iterator = subst (HandsOut (record_iterator rules frame stream) (from_frame frame) (walk_of L stream.now).cmds) (ap (λ (s : List ℕ). (walk_of L s).ending) same ∙ e.1)
           (records_of_the_walk rules stream frame).by_iterator;
     }
-of_functions (frequency bytes hz) e = record { so = λ s same a g. in-hertz bytes hz e.1 a (g.1.1 ∙ ap (exactly 3) same ∙ e.0) }
-of_functions (margin_reads b m) e = record { so = λ battery r g. g.1.1 ∙ e battery }
-of_functions (no_margin m) e = record { so = λ c r g. let x = both (g.1.1 ∙ e c.«data») in (x.0, ap (λ (d : List ℕ). record { «data» = d }) x.1) }
-of_functions (says a b it) e = record { so = says_so a b it e }
-of_functions (nano_seconds before n v after) e = record { so = λ r g. both (g.1.1 ∙ e) }
+of_functions (frequency bytes hz) e = λ s same a g. in-hertz bytes hz e.1 a (g.1.1 ∙ ap (exactly 3) same ∙ e.0)
+of_functions (margin_reads b m) e = λ battery r g. g.1.1 ∙ e battery
+of_functions (no_margin m) e = λ c r c' g. let x = both (verdict_with (λ k. k.«data») r g.1.1.0 g.1.1.1 ∙ e c.now.«data») in (x.0, ap (λ (d : List ℕ). record { «data» = d }) x.1)
+of_functions (says a b it) e = says_so a b it e
+of_functions (nano_seconds before n v after) e = λ c r c' same g. both (verdict_with (λ k. k.«data») r g.1.1.0 g.1.1.1 ∙ ap (λ (d : List ℕ). nano_seconds_at d n) same ∙ e)
 of_functions (power_then_dwell index byte dBm) e = record {
-  so = record {
-    set = λ c d r new power dwell.
-        let p = power.1.1 ∙ ap (λ (image : List ℕ). checked_at tx_param_setup_req_max_eirp 11 image index) new.1.1 in
-        (ap (λ x. x.0) p ∙ e.0, dwell.1.1 ∙ ap (λ x. dwell_at tx_param_setup_req_downlink_dwell_time x.1) p ∙ e.1);
-    read = λ r g. g.1.1 ∙ e.2;
-  };
+  set = λ c r c' d new power dwell.
+      let p = verdict_with (λ k. k.«data») r power.1.1.0 power.1.1.1 ∙ ap (λ (image : List ℕ). checked_at tx_param_setup_req_max_eirp 11 image index) new.1.1 in
+      (ap (λ x. x.0) p ∙ e.0, dwell.1.1 ∙ ap (λ x. dwell_at tx_param_setup_req_downlink_dwell_time x.1) p ∙ e.1);
+  read = λ r g. g.1.1 ∙ e.2;
 }
 of_functions (seconds s a b c d back) e = record {
-  so = record {
-    set = λ x y new set. set.1.1 ∙ ap (λ (image : List ℕ). seconds_at image s) new.1.1 ∙ e.0;
-    read = λ r g. g.1.1 ∙ e.1;
-  };
+  set = λ x y new set. set.1.1 ∙ ap (λ (image : List ℕ). seconds_at image s) new.1.1 ∙ e.0;
+  read = λ r g. g.1.1 ∙ e.1;
 }
 of_functions (builds slots records before answer after) e = record {
   same = e.0;
   packed = λ a o b. both ((slots_defined _ _ _ _ _ b).says ∙ e.1);
   structs = λ a o b. both ((structs_defined _ _ _ _ _ b).says ∙ e.2);
 }
-of_functions (channel m c on) e = record { so = λ r g. g.1.1 ∙ e }
-of_functions (channel_set m c on v after) e = record { so = λ r g. both (g.1.1 ∙ e) }
-of_functions (range b r) e = record { so = λ a g. g.1.1 ∙ e }
+of_functions (channel m c on) e = λ r g. g.1.1 ∙ e
+of_functions (channel_set m c on v after) e = λ k r k' same g. both (verdict_with (λ x. x.0) r g.1.1.0 g.1.1.1 ∙ ap (λ (b : List ℕ). set_channel b c on) same ∙ e)
+of_functions (range b r) e = λ a g. g.1.1 ∙ e
 
 -- ---- the list
 
 all : (es : List Example) → Every Means es → All es
-all [] m = record { so = tt }
+all [] m = tt
 all (e ∷ es) m = (of_functions e m.0, all es m.1)
 
 join : (es fs : List Example) → Every Means es → Every Means fs → Every Means (es ++ fs)

@@ -8,7 +8,6 @@ use lib.ListN.{length, drop, length-append}
 use lib.Seq.{length-take-le}
 use borrow.Author.Tests.{le-leb}
 use Rattle.std.specs.Borrow.{Bor, MutBor}
-use contract.Lifetimes.{Lfts}
 use Rattle.table.specs.Answers.{Answer, given, refused}
 use Rattle.table.specs.Table.{length_of}
 use Rattle.table.specs.declared.rules.Rules.{Rules}
@@ -31,12 +30,11 @@ use Rattle.build.specs.declared.record.Record.{Record}
 use Rattle.build.proofs.AsRecords.{five_front}
 use Rattle.lent.specs.Iterator.{fresh, nexted, nexted_record}
 use Rattle.lent.specs.declared.iterator.MacCommandIterator.{MacCommandIterator}
-use Rattle.lent.specs.contracts.iterator.MacCommandIterator.next as next
-use Rattle.lent.specs.contracts.iterator.MacCommandIterator.next_record as next_record
+use Rattle.lent.proofs.iterator.MacCommandIterator.next.Reads as next
+use Rattle.lent.proofs.iterator.MacCommandIterator.next_record.Reads as next_record
 use Rattle.claims.specs.Handing.{Front, RecordAsked, NextRecordAsked, CommandAsked, commands_of, record_steps, record_iterator, with_payload, with_record, onward, by_offsets, StepAsked, UplinkAsked, DownlinkAsked, Made, by_new, parsed_up, parsed_down, NextAsked, NoCommand, first_told, Calls, begun, handed, none_handed, HandsOut, itself, ReadAs, steps, uplink_steps, downlink_steps, iterator}
 use Rattle.claims.specs.Handing as Handing
-use Rattle.claims.specs.Outcomes.{Admits}
-use Rattle.claims.proofs.ByHand.{by_hand}
+use Rattle.claims.specs.Outcomes.{GivesWith}
 
 -- ---- lists of commands
 
@@ -93,9 +91,9 @@ retold_itself (given (stopped n o)) = refl
 retold_itself (refused n) = refl
 
 pub retold_refused : {A B : Type 0} (f : A → B) (a : Answer (Found A)) (n : ℕ) → retold f a ≡ refused n → a ≡ refused n
-retold_refused f (given (command c next)) n e = let z : ◌≡◌ {A = ℕ} 0 1 = cc in absurd (omega arith)
-retold_refused f (given ended) n e = let z : ◌≡◌ {A = ℕ} 0 1 = cc in absurd (omega arith)
-retold_refused f (given (stopped k o)) n e = let z : ◌≡◌ {A = ℕ} 0 1 = cc in absurd (omega arith)
+retold_refused f (given (command c next)) n e = cc
+retold_refused f (given ended) n e = cc
+retold_refused f (given (stopped k o)) n e = cc
 retold_refused f (refused k) n e = cc
 
 module _ {A : Type 0} (tell : Placed → A) where
@@ -111,8 +109,8 @@ module _ {A : Type 0} (tell : Placed → A) where
 
   -- no ending is a command, nor moves who reads
   no_command : (e : Ending) {c : A} {next : ℕ} → ◌≡◌ {A = Answer (Found A)} (given (command c next)) (given (first_told tell [] e)) → ⊥
-  no_command (end o) p = let z : ◌≡◌ {A = ℕ} 0 1 = cc in omega arith
-  no_command (stop n o) p = let z : ◌≡◌ {A = ℕ} 0 1 = cc in omega arith
+  no_command (end o) p = cc
+  no_command (stop n o) p = cc
 
   stays : (e : Ending) (at : ℕ) → onward (given (first_told tell [] e)) at ≡ at
   stays (end o) at = refl
@@ -120,7 +118,7 @@ module _ {A : Type 0} (tell : Placed → A) where
 
 -- ---- an entry that answers as the definition of a step says, each command told so
 
-pub record Faithful {A : Type 0} (L : Rule) (s : List ℕ) (tell : Placed → A) (F : Front A) : Type 2 where
+pub record Faithful {A : Type 0} (L : Rule) (s : List ℕ) (tell : Placed → A) (F : Front A) : Type 1 where
   -- what holds of the states
   pub Sound : F.State → Type 0
   pub begins : (st : F.State) → F.begin st → Sound st × (F.offset st ≡ 0)
@@ -247,12 +245,12 @@ told_whole L stream at x p t q =
     ∙ shown_whole L stream at (found_at L stream.now at) refl
 
 -- one that is asked by offsets
-by-offsets : {A : Type 0} (L : Rule) (s : List ℕ) (tell : Placed → A) (ask : ℕ → Answer (Found A) → ℕ → Type 2)
+by-offsets : {A : Type 0} (L : Rule) (s : List ℕ) (tell : Placed → A) (ask : ℕ → Answer (Found A) → ℕ → Type 0)
     → ((at at' : ℕ) (a : Answer (Found A)) → ask at a at' → (a ≡ told_at tell L s at) × (at' ≡ onward a at))
     → Faithful L s tell (by_offsets ask)
 by-offsets L s tell ask h = record {
   Sound = λ at. Unit;
-  begins = λ at b. (tt, b.zero);
+  begins = λ at b. (tt, b);
   asks = λ at at' a _ q. let x = h at at' a q in (x.0, x.1, tt);
 }
 
@@ -278,10 +276,9 @@ pub downlink_faithful : (stream : Bor (List ℕ)) → Faithful (length_of sent_d
 downlink_faithful stream = by-offsets (length_of sent_down) stream.now itself (DownlinkAsked stream) (downlink_asked stream)
 
 -- what the contract of `next` says
-pub next_says : (it : MutBor MacCommandIterator) (r : Step) (κs : Lfts 2) (exit : MutBor MacCommandIterator × Unit)
-    → Admits next.ended (λ M 𝓤 𝓛. next.clauses 𝓛) κs (it, tt) r exit
-    → ◌≡◌ {A = Answer (Found Heading) × MacCommandIterator} (told_step r, exit.0.now) (nexted it.now)
-next_says it r κs exit q = (by_hand.next κs it r exit).0 q
+pub next_says : (it : MutBor MacCommandIterator) (r : Step) (it' : MacCommandIterator) → GivesWith (λ s. s.0.now) next.Post (it, tt) r it'
+    → ◌≡◌ {A = Answer (Found Heading) × MacCommandIterator} (told_step r, it') (nexted it.now)
+next_says it r it' q = ap (λ (x : MacCommandIterator). (told_step r, x)) (sym q.1.1.1) ∙ q.1.1.0
 
 -- an iterator moves as one does who reads by offsets
 moved : (a : Answer (Found Heading)) (at : ℕ) → moved_to a at ≡ onward a at
@@ -306,15 +303,15 @@ module _ (rules : Rules) (stream : Bor (List ℕ)) where
       ∙ ap (λ (s : Bor (List ℕ)). found_at (length_of rules) s.now it.index) k.same_stream
 
 made_faithful : (stream : Bor (List ℕ)) (rules : Rules) (it : MacCommandIterator) → Made stream rules it → Keeps rules stream it × (it.index ≡ 0)
-made_faithful stream rules it (by_new κs exit p) = fresh_faithful rules stream it ((by_hand.new κs stream rules it exit).0 p)
-made_faithful stream _ it (parsed_up κs exit p) = fresh_faithful sent_up stream it ((by_hand.parse_up κs stream it exit).0 p)
-made_faithful stream _ it (parsed_down κs exit p) = fresh_faithful sent_down stream it ((by_hand.parse_down κs stream it exit).0 p)
+made_faithful stream rules it (by_new p) = fresh_faithful rules stream it p.1.1
+made_faithful stream _ it (parsed_up p) = fresh_faithful sent_up stream it p.1.1
+made_faithful stream _ it (parsed_down p) = fresh_faithful sent_down stream it p.1.1
 
 module _ (rules : Rules) (stream : Bor (List ℕ)) where
   next_faithful : (it it' : MacCommandIterator) (a : Answer (Found Cmd)) → Keeps rules stream it → NextAsked it a it'
       → (a ≡ told_at itself (length_of rules) stream.now it.index) × (it'.index ≡ onward a it.index) × Keeps rules stream it'
-  next_faithful _ _ _ k (Handing.asked it r p κs exit q g) =
-      let e : ◌≡◌ {A = Answer (Found Heading) × MacCommandIterator} (told_step r, exit.0.now) (nexted it.now) = next_says it r κs exit q in
+  next_faithful _ _ _ k (Handing.asked it r p it' q g) =
+      let e : ◌≡◌ {A = Answer (Found Heading) × MacCommandIterator} (told_step r, it') (nexted it.now) = next_says it r it' q in
       let L = length_of it.now.rules in
       let whole : with_payload (told_step r) p.now ≡ found_at L it.now.«data».now it.now.index =
       told_whole L it.now.«data» it.now.index (told_step r) p (ap (λ x. x.0) e) g.1.1 in (
@@ -370,10 +367,10 @@ module _ (rules : Rules) (s : List ℕ) (frame : ℕ) where
           )
 
 -- what the contract of `next_record` says
-pub next_record_says : (it : MutBor MacCommandIterator) (frame : ℕ) (r : Handed) (κs : Lfts 2) (exit : MutBor MacCommandIterator × (ℕ × Unit))
-    → Admits next_record.ended (λ M 𝓤 𝓛. next_record.clauses 𝓛) κs (it, (frame, tt)) r exit
-    → ◌≡◌ {A = (Answer (Found Heading) × Record) × MacCommandIterator} (told_handed r, exit.0.now) (nexted_record frame it.now)
-next_record_says it frame r κs exit q = (by_hand.next_record κs it frame r exit).0 q
+pub next_record_says : (it : MutBor MacCommandIterator) (frame : ℕ) (r : Handed) (it' : MacCommandIterator)
+    → GivesWith (λ s. s.0.now) next_record.Post (it, (frame, tt)) r it'
+    → ◌≡◌ {A = (Answer (Found Heading) × Record) × MacCommandIterator} (told_handed r, it') (nexted_record frame it.now)
+next_record_says it frame r it' q = ap (λ (x : MacCommandIterator). (told_handed r, x)) (sym q.1.1.1) ∙ q.1.1.0
 
 module _ (rules : Rules) (frame : ℕ) (stream : Bor (List ℕ)) where
   record_asked : (at at' : ℕ) (a : Answer (Found Record)) → RecordAsked rules frame stream at a at'
@@ -385,8 +382,8 @@ module _ (rules : Rules) (frame : ℕ) (stream : Bor (List ℕ)) where
 
   next_record_faithful : (it it' : MacCommandIterator) (a : Answer (Found Record)) → Keeps rules stream it → NextRecordAsked frame it a it'
       → (a ≡ told_at (from_frame frame) (length_of rules) stream.now it.index) × (it'.index ≡ onward a it.index) × Keeps rules stream it'
-  next_record_faithful _ _ _ k (Handing.asked it r κs exit q) =
-      let e = next_record_says it frame r κs exit q in (
+  next_record_faithful _ _ _ k (Handing.asked it r it' q) =
+      let e = next_record_says it frame r it' q in (
         record_told (length_of it.now.rules) it.now.«data».now frame it.now.index r (ap (λ x. x.0) e)
             ∙ ap (retold (λ (c : Cmd). from_frame frame (record { at = it.now.index; cmd = c }))) (its_step rules stream it.now k),
         ap (λ x. x.1.index) e

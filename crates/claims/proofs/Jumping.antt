@@ -4,12 +4,14 @@ use mathlib.Core.List.{List, [], ◌∷◌, ◌++◌}
 use mathlib.Core.Path.{◌≡◌, refl, sym, ap, ◌∙◌, subst}
 use native.Mathlib.Omega.{arith}
 use Rattle.std.specs.Borrow.{Bor, MutBor}
+use Rattle.std.specs.Prelude.{Result}
 use lib.ListN.{length, get_or, take, drop, length-drop, drop_of_length-le, get_or-append}
 use lib.Seq.{take-append_seam}
 use Rattle.bits.specs.Memory.{over}
 use Rattle.bits.proofs.Memory.{over_front, over_drop, over_length}
 use Rattle.table.specs.Answers.{Answer, given, refused}
 use Rattle.table.specs.Table.{length_of}
+use Rattle.table.specs.declared.refusal.Refusal.{Refusal}
 use Rattle.table.specs.declared.rules.Direction.{Direction}
 use Rattle.table.specs.declared.rules.Rules.{Rules}
 use Rattle.walk.specs.Ownership.{offset_of}
@@ -20,8 +22,7 @@ use Rattle.walk.proofs.Steps.{step_on}
 use Rattle.jumps.specs.Entries.{entries_of, made}
 use Rattle.jumps.specs.Jump.{Spot, spotted, jumped}
 use Rattle.jumps.specs.Told.{told_entries, told_jump}
-use Rattle.jumps.specs.declared.entries.EntriesAnswer.{EntriesAnswer}
-use Rattle.jumps.specs.declared.jump.JumpAnswer.{JumpAnswer}
+use Rattle.jumps.specs.declared.jump.Spot as Code
 use Rattle.jumps.proofs.Making.{entry_at, entries_count, made_short, made_long, made_all, Making, short, long, all, making}
 use Rattle.jumps.proofs.Reaching.{entry_past, none_covers, covered, Jumping, uncovered, past, there, jumping, reached, not_reached, by_own}
 use Rattle.build.specs.declared.handed.Handed.{Handed}
@@ -29,9 +30,6 @@ use Rattle.build.proofs.handed.record_at.Reads as record_at
 use Rattle.claims.specs.Jumping.{Makes, Asks, Nth, entries_for, EntriesIn, MakingTells, OwnTells, MadeOf, AnyTells, RecordIs, MakesAs, JumpsAs, SeventeenCommands, StopAfterSixteen, EntriesOfAnother, EmptyStream, JumpsTell}
 use Rattle.claims.specs.Outcomes.{Gives}
 use Rattle.claims.proofs.Origins.{record_says}
-
-not_both : {A : Type 0} {x : A} {k : ℕ} → refused k ≡ given x → ⊥
-not_both e = let no_way : ◌≡◌ {A = ℕ} 0 1 = cc in omega arith
 
 -- below the length of a list there is an n-th
 nth_of : (ps : List Placed) (n : ℕ) {So : Placed → Type 0} → n < length ps → ((p : Placed) (behind : List Placed) → drop n ps ≡ p ∷ behind → So p) → Nth ps n So
@@ -81,15 +79,15 @@ module _ (L : Rule) (s : List ℕ) where
       kept : (k : ℕ) {o : Answer ℕ × List ℕ} → Making L s numbers o → o ≡ (a, after) → a ≡ refused k → after ≡ numbers
       kept k (short h) f r = sym (ap (λ x. x.1) f)
       kept k (long h g) f r = sym (ap (λ x. x.1) f)
-      kept k (all h g) f r = absurd (not_both (sym r ∙ sym (ap (λ x. x.0) f)))
+      kept k (all h g) f r = let told = ap (λ x. x.0) f in cc
 
   -- the entries that it reported are the stream's
   reported : (numbers : List ℕ) {a : Answer ℕ} {after : List ℕ} {total : ℕ} → ◌≡◌ {A = Answer ℕ × List ℕ} (a, after) (made L s numbers) → a ≡ given total → take total after ≡ entries
   reported numbers {a} {after} {total} e r = by (making L s numbers) (sym e)
     where
       by : {o : Answer ℕ × List ℕ} → Making L s numbers o → o ≡ (a, after) → take total after ≡ entries
-      by (short h) f = absurd (not_both (ap (λ x. x.0) f ∙ r))
-      by (long h g) f = absurd (not_both (ap (λ x. x.0) f ∙ r))
+      by (short h) f = let told = ap (λ x. x.0) f in cc
+      by (long h g) f = let told = ap (λ x. x.0) f in cc
       by (all h g) f =
           let same : given (length entries) ≡ given total = ap (λ x. x.0) f ∙ r in
           let total_is : length entries ≡ total = cc in
@@ -122,9 +120,9 @@ module _ (L : Rule) (s : List ℕ) where
   spotted_by at (given (command h next)) {x} e =
       let x_is : record { at = at; cid = h.cid; len = h.len } ≡ x = cc in
       (ap (λ (y : Spot). y.at) (sym x_is), (next, ap (λ (y : Spot). given (command (heading y.cid y.len) next)) x_is))
-  spotted_by at (given ended) e = absurd (not_both e)
-  spotted_by at (given (stopped n o)) e = absurd (not_both e)
-  spotted_by at (refused n) e = absurd (not_both e)
+  spotted_by at (given ended) e = cc
+  spotted_by at (given (stopped n o)) e = cc
+  spotted_by at (refused n) e = cc
 
   -- a step finds it at its offset
   abbrev FoundThere : Spot → Type 0
@@ -140,8 +138,8 @@ module _ (L : Rule) (s : List ℕ) where
           f.1 ∙ ap (λ (k : ℕ). given (command (heading x.cid x.len) k)) next_is
 
       by : {a : Answer Spot} → Jumping L s es n a → a ≡ given x → FoundThere x
-      by (uncovered h) f = absurd (not_both f)
-      by (past h g) f = absurd (not_both f)
+      by (uncovered h) f = cc
+      by (past h g) f = cc
       by (there h g) f =
           let at : ℕ = after_steps L s (get_or es (n / 16) 0) (n % 16) in
           let found = spotted_by at (step_at L s at) f in
@@ -149,7 +147,7 @@ module _ (L : Rule) (s : List ℕ) where
 
 -- ---- of the functions
 
-its_record : (rules : Rules) (stream entries : Bor (List ℕ)) (n : ℕ) (r : JumpAnswer) (x : Spot) → Asks rules stream entries n r → told_jump r ≡ given x
+its_record : (rules : Rules) (stream entries : Bor (List ℕ)) (n : ℕ) (r : Result Code.Spot Refusal) (x : Spot) → Asks rules stream entries n r → told_jump r ≡ given x
     → (frame : ℕ) (q : Handed) → Gives record_at.Post (rules, (frame, (stream, (x.at, tt)))) q → RecordIs rules stream x frame q
 its_record rules stream entries n r x a e frame q g =
     let found = ap (λ y. y.0) g.1.1 ∙ told_by (length_of rules) stream.now entries.now n (sym a.1.1 ∙ e) in
@@ -159,9 +157,9 @@ its_record rules stream entries n r x a e frame q g =
 told_with : {a : Answer ℕ} {o after : List ℕ} {x : Answer ℕ × List ℕ} → (a, o) ≡ x → o ≡ after → (a, after) ≡ x
 told_with {a} e f = ap (λ (l : List ℕ). (a, l)) (sym f) ∙ e
 
-own : (rules : Rules) (stream entries : Bor (List ℕ)) → MadeOf rules stream.now entries.now → (n : ℕ) (r : JumpAnswer) → Asks rules stream entries n r
+own : (rules : Rules) (stream entries : Bor (List ℕ)) → MadeOf rules stream.now entries.now → (n : ℕ) (r : Result Code.Spot Refusal) → Asks rules stream entries n r
     → OwnTells (walk_of (length_of rules) stream.now).cmds n (told_jump r)
-own rules stream entries m n r q =
+own rules stream lent m n r q =
     let made_is = told_with m.made.1.1.0 m.made.1.1.1 in
     let reported-are = reported (length_of rules) m.stream.now m.numbers.now made_is m.reported in
     let entries_are = m.exactly ∙ reported-are ∙ ap (entries_of (length_of rules)) m.same in
@@ -178,7 +176,7 @@ abbrev to_lent : MutBor (List ℕ) → List ℕ → MutBor (List ℕ)
 to_lent s l = record s { now = l }
 
 makes : {d : Direction} {bytes before : List ℕ} {a : Answer ℕ} {after : List ℕ}
-    → ((s : Bor (List ℕ)) (n : MutBor (List ℕ)) (r : EntriesAnswer) (left : List ℕ) → Makes (record { direction = d }) (to s bytes) (to_lent n before) r left → ◌≡◌ {A = Answer ℕ × List ℕ} (told_entries r, left) (a, after))
+    → ((s : Bor (List ℕ)) (n : MutBor (List ℕ)) (r : Result ℕ Refusal) (left : List ℕ) → Makes (record { direction = d }) (to s bytes) (to_lent n before) r left → ◌≡◌ {A = Answer ℕ × List ℕ} (told_entries r, left) (a, after))
     → MakesAs d bytes before a after
 makes {d} {bytes} computed = record {
   so = λ stream numbers s n r left g.
@@ -188,7 +186,7 @@ makes {d} {bytes} computed = record {
 }
 
 jumps : {d : Direction} {bytes entries : List ℕ} {n : ℕ} {a : Answer Spot}
-    → ((s l : Bor (List ℕ)) (r : JumpAnswer) → Asks (record { direction = d }) (to s bytes) (to l entries) n r → told_jump r ≡ a) → JumpsAs d bytes entries n a
+    → ((s l : Bor (List ℕ)) (r : Result Code.Spot Refusal) → Asks (record { direction = d }) (to s bytes) (to l entries) n r → told_jump r ≡ a) → JumpsAs d bytes entries n a
 jumps {d} {bytes} {n = n} computed = record {
   so = λ stream lent s e r g.
       let there = subst (λ (l : List ℕ). Asks (record { direction = d }) (to stream l) lent n r) s g in

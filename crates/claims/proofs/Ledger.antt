@@ -10,11 +10,13 @@ use lib.Dec.{ltb}
 use lib.ListN.{length, drop, length-append}
 use lib.Seq.{drop-append_seam}
 use Rattle.std.specs.Borrow.{Bor, MutBor}
+use Rattle.std.specs.Prelude.{Result, Ok, Err, None, Some}
+use Rattle.std.specs.Prelude as Std
 use Rattle.bits.specs.Every.{Every}
 use Rattle.table.specs.Answers.{Answer, given, refused, Consent, accepted}
 use Rattle.table.specs.Table.{length_of}
-use Rattle.table.specs.Told.{told_verdict}
-use Rattle.table.proofs.Told.{verdict_tells}
+use Rattle.table.specs.declared.refusal.Refusal.{Refusal}
+use Rattle.table.proofs.Told.{numbered, numbered_number}
 use Rattle.fields.specs.Lists.{tabulate}
 use Rattle.fields.proofs.Lists.{length_tabulate}
 use Rattle.walk.specs.Walk.{Walk, walk_of}
@@ -43,10 +45,11 @@ use Rattle.ledger.specs.Settings.{
   downlink_frequency,
   is_beyond,
 }
+use Rattle.ledger.specs.Told.{told_replay, told_line}
 use Rattle.ledger.specs.Trace.{TraceLine, Lawful, written, written_all, front, parted, lines_of, BeginsWith}
 use Rattle.ledger.specs.declared.Ledger.{Ledger}
-use Rattle.ledger.specs.declared.exchange.Replayed.{Replayed}
-use Rattle.ledger.specs.declared.settings.Held.{Held}
+use Rattle.ledger.specs.declared.exchange.BadLine.{BadLine}
+use Rattle.ledger.specs.declared.settings.Parent.{Parent}
 use Rattle.ledger.proofs.Asking.{fresh_is}
 use Rattle.ledger.proofs.LineByLine as Texts
 use Rattle.ledger.proofs.Matches.{queue_is_matching, stray_is_unmatched, open_are_unanswered}
@@ -56,10 +59,11 @@ use Rattle.ledger.proofs.Replaying.{higher_not_held}
 use Rattle.ledger.proofs.Tracing.{front_read, read_is_inverse, lines_none, lines_some, trace_read_back}
 use Rattle.ledger.proofs.Walking.{named_either}
 use Rattle.claims.specs.Ledger.{
+  Replayed,
   Replays,
   FromNew,
   Asks,
-  told_held,
+  told_parent,
   EntriesAre,
   Tells,
   TraceText,
@@ -90,11 +94,13 @@ Outcome = Consent × ℕ × Book
 
 -- what an outcome tells
 abbrev pub outcome_of : Replayed → List ℕ → Outcome
-outcome_of r after = (told_verdict r.verdict, r.line, book_of r.ledger after)
+outcome_of r after = (told_replay r.answer, told_line r.answer, book_of r.ledger after)
 
 outcome : (l : Ledger) (text : Bor (List ℕ)) (list : MutBor (List ℕ)) (r : Replayed) (after : List ℕ) → Replays l text list r after
     → outcome_of r after ≡ replayed text.now (book_of l list.now)
-outcome l text list r after g = ap (outcome_of r) (sym g.1.1.1) ∙ g.1.1.0
+outcome l text list r after g =
+    let a = g.admitted.1.1 in
+    ap (λ x. (told_replay r.answer, told_line r.answer, book_of x.0 x.1)) (sym a.1) ∙ a.0 ∙ ap (λ (k : Ledger). replayed text.now (book_of k list.now)) g.same
 
 -- by what the text and the list are
 outcome_at : (l : Ledger) (text : Bor (List ℕ)) (list : MutBor (List ℕ)) (r : Replayed) (after : List ℕ) {t w : List ℕ} → text.now ≡ t → list.now ≡ w
@@ -108,7 +114,7 @@ from_new text list r after g =
     ∙ ap (λ (l : Ledger). replayed text.now (book_of l list.now)) g.new.1.1
     ∙ ap (replayed text.now) (fresh_is list.now)
 
-in-hand : (σ : Setting) (l : Ledger) (h : Held) → Asks σ l h → h ≡ in_hand (shown σ (held_in l.held σ))
+in-hand : (σ : Setting) (l : Ledger) (h : Std.Option Parent) → Asks σ l h → h ≡ in_hand (shown σ (held_in l.held σ))
 in-hand data_rate l h g = g.1.1
 in-hand tx_power l h g = g.1.1
 in-hand channel_mask l h g = g.1.1
@@ -125,12 +131,12 @@ in-hand (channel_frequency i) l h g = g.1.1
 in-hand (channel_rates i) l h g = g.1.1
 in-hand (downlink_frequency i) l h g = g.1.1
 
-told_back : (o : Option Shown) → told_held (in_hand o) ≡ o
+told_back : (o : Option Shown) → told_parent (in_hand o) ≡ o
 told_back none = refl
 told_back (some s) = refl
 
-pub told_is : (σ : Setting) (l : Ledger) (h : Held) → Asks σ l h → told_held h ≡ shown σ (held_in l.held σ)
-told_is σ l h g = ap told_held (in-hand σ l h g) ∙ told_back (shown σ (held_in l.held σ))
+pub told_is : (σ : Setting) (l : Ledger) (h : Std.Option Parent) → Asks σ l h → told_parent h ≡ shown σ (held_in l.held σ)
+told_is σ l h g = ap told_parent (in-hand σ l h g) ∙ told_back (shown σ (held_in l.held σ))
 
 -- ---- entries
 
@@ -147,9 +153,6 @@ entries_are after n list k e same h g =
 
 -- ---- lines that are all taken
 
-apart : {A : Type 0} {x : A} {k : ℕ} → ◌≡◌ {A = Answer A} (refused k) (given x) → ⊥
-apart e = let no_way : ◌≡◌ {A = ℕ} 0 1 = cc in omega arith
-
 -- have the form, and no number is told
 record AllTaken (ls : Lines) (o : Outcome) : Type 0 where
   lines : List TraceLine
@@ -159,25 +162,25 @@ record AllTaken (ls : Lines) (o : Outcome) : Type 0 where
 all_taken : (ls : Lines) (b : Book) → (taken_all ls b).0 ≡ accepted → AllTaken ls (taken_all ls b)
 unfolding taken_all
 all_taken [] b e = record { lines = []; read = refl; number = refl }
-all_taken (none ∷ ls) b e = absurd (apart e)
+all_taken (none ∷ ls) b e = cc
 all_taken (some l ∷ ls) b e = by (taken (some l) b) (all_taken ls) e
   where
     by : (z : Answer Book) → ((c : Book) → (taken_all ls c).0 ≡ accepted → AllTaken ls (taken_all ls c)) → (going z b (taken_all ls)).0 ≡ accepted
         → AllTaken (some l ∷ ls) (going z b (taken_all ls))
     by (given c) h e = let t = h c e in record { lines = l ∷ t.lines; read = ap (λ (x : Lines). some l ∷ x) t.read; number = t.number }
-    by (refused k) h e = absurd (apart e)
+    by (refused k) h e = cc
 
 -- the same of an outcome
 record TakenWhole (t : List ℕ) (b c : Book) : Type 0 where
   text_is : TraceText t
   replays : replayed t b ≡ (accepted, 0, c)
 
-taken_whole : (t : List ℕ) (b : Book) (r : Replayed) (after : List ℕ) → outcome_of r after ≡ replayed t b → told_verdict r.verdict ≡ accepted
-    → (r.line ≡ 0) × TakenWhole t b (book_of r.ledger after)
+taken_whole : (t : List ℕ) (b : Book) (r : Replayed) (after : List ℕ) → outcome_of r after ≡ replayed t b → told_replay r.answer ≡ accepted
+    → (told_line r.answer ≡ 0) × TakenWhole t b (book_of r.ledger after)
 taken_whole t b r after e a =
     let w = all_taken (lines_of t) b (ap (λ (o : Outcome). o.0) (sym e) ∙ a) in
     let text = trace_read_back.only t w.lines w.read in
-    let zero : r.line ≡ 0 = ap (λ (o : Outcome). o.1) e ∙ w.number in (
+    let zero : told_line r.answer ≡ 0 = ap (λ (o : Outcome). o.1) e ∙ w.number in (
       zero,
       record {
         text_is = record { lines = w.lines; lawful = text.0; text_is = text.1 };
@@ -292,8 +295,8 @@ taken_alone b p e = ap (λ (x : Lines). taken_all x b) (trace_read_back.all p.li
 
 one_list : (xs ys : List TraceLine) → ◌≡◌ {A = Lines} (map some xs) (map some ys) → xs ≡ ys
 one_list [] [] e = refl
-one_list [] (y ∷ ys) e = let no_way : ◌≡◌ {A = ℕ} 0 1 = cc in absurd (omega arith)
-one_list (x ∷ xs) [] e = let no_way : ◌≡◌ {A = ℕ} 0 1 = cc in absurd (omega arith)
+one_list [] (y ∷ ys) e = cc
+one_list (x ∷ xs) [] e = cc
 one_list (x ∷ xs) (y ∷ ys) e =
     let first : ◌≡◌ {A = Option TraceLine} (some x) (some y) = cc in
     let same : x ≡ y = cc in
@@ -328,33 +331,33 @@ module _ (t lent : List ℕ) (k n : ℕ) (b : Book) where
 
 refuses_exactly : RefusesExactly
 refuses_exactly text list r after g = record {
-  refuses = λ k. (refuses k, λ f. verdict_is (is_refused text.now list.now k r.line (book_of r.ledger after) f));
+  refuses = λ k. (refuses k, λ f. verdict_is (is_refused text.now list.now k (told_line r.answer) (book_of r.ledger after) f));
   accepts = (
-    λ a k n b f. apart (sym (verdict_is (is_refused text.now list.now k n b f)) ∙ a),
-    λ none-at-fault. by (told_verdict r.verdict) refl none-at-fault,
+    λ a k n b f. let v = verdict_is (is_refused text.now list.now k n b f) in cc,
+    λ none-at-fault. by (told_replay r.answer) refl none-at-fault,
   );
   tells = λ k f. tells f.at.lines list.now r.ledger after f.at.lawful f.before;
 }
   where
-    verdict_is : {v : Consent} {n : ℕ} {b : Book} → replayed text.now (fresh list.now) ≡ (v, n, b) → told_verdict r.verdict ≡ v
+    verdict_is : {v : Consent} {n : ℕ} {b : Book} → replayed text.now (fresh list.now) ≡ (v, n, b) → told_replay r.answer ≡ v
     verdict_is e = ap (λ (o : Outcome). o.0) (from_new text list r after g ∙ e)
 
-    refuses : (k : ℕ) → told_verdict r.verdict ≡ refused k → FirstFault text.now list.now k r.line (book_of r.ledger after)
+    refuses : (k : ℕ) → told_replay r.answer ≡ refused k → FirstFault text.now list.now k (told_line r.answer) (book_of r.ledger after)
     refuses k v =
-        first_fault text.now list.now k r.line (book_of r.ledger after)
-        (sym (from_new text list r after g) ∙ ap (λ (c : Consent). (c, r.line, book_of r.ledger after)) v)
+        first_fault text.now list.now k (told_line r.answer) (book_of r.ledger after)
+        (sym (from_new text list r after g) ∙ ap (λ (c : Consent). (c, told_line r.answer, book_of r.ledger after)) v)
 
-    by : (c : Consent) → told_verdict r.verdict ≡ c → ((k n : ℕ) (b : Book) → FirstFault text.now list.now k n b → ⊥)
-        → told_verdict r.verdict ≡ accepted
+    by : (c : Consent) → told_replay r.answer ≡ c → ((k n : ℕ) (b : Book) → FirstFault text.now list.now k n b → ⊥)
+        → told_replay r.answer ≡ accepted
     by (given x) e h = e
-    by (refused k) e h = absurd (h k r.line (book_of r.ledger after) (refuses k e))
+    by (refused k) e h = absurd (h k (told_line r.answer) (book_of r.ledger after) (refuses k e))
 
 -- an event is not refused for the form
 abbrev NotForm : Answer Book → Type 0
 NotForm a = a ≡ refused 18 → ⊥
 
 given_fine : (b : Book) → NotForm (given b)
-given_fine b e = apart (sym e)
+given_fine b e = cc
 
 other_fine : (k : ℕ) → (k ≡ 18 → ⊥) → NotForm (refused k)
 other_fine k h e = h cc
@@ -388,10 +391,22 @@ steps_fine (x ∷ es) b = by (step x b) (step_fine x b) (steps_fine es)
     by (given c) f h = h c
     by (refused k) f h = λ e. let same : k ≡ 18 = cc in f (ap refused same)
 
+-- an answer is known from what it tells
+answer_of : Consent → ℕ → Result Unit BadLine
+answer_of (given x) n = Ok tt
+answer_of (refused k) n = Err (record { reason = numbered k; line = n })
+
+answer_back : (a : Result Unit BadLine) → answer_of (told_replay a) (told_line a) ≡ a
+unfolding answer_of
+answer_back (Ok x) = refl
+answer_back (Err e) = ap (λ (r : Refusal). Err (record { reason = r; line = e.line })) (numbered_number e.reason)
+
+answer_tells : {a b : Result Unit BadLine} → told_replay a ≡ told_replay b → told_line a ≡ told_line b → a ≡ b
+answer_tells {a} {b} p q = sym (answer_back a) ∙ ap₂ answer_of p q ∙ answer_back b
+
 same_from : (r : Replayed) (after : List ℕ) (s : Replayed) (after' : List ℕ) → outcome_of r after ≡ outcome_of s after' → Same r after s after'
 same_from r after s after' e = record {
-  verdict = verdict_tells (ap (λ (o : Outcome). o.0) e);
-  line = ap (λ (o : Outcome). o.1) e;
+  answer = answer_tells (ap (λ (o : Outcome). o.0) e) (ap (λ (o : Outcome). o.1) e);
   book = ap (λ (o : Outcome). o.2) e;
 }
 
@@ -417,7 +432,7 @@ refused_form t c k why = (
     by (some m) f no_line why = absurd (no_line m (front_read t m f))
 
 kept : (l : Ledger) (text : Bor (List ℕ)) (list : MutBor (List ℕ)) (r : Replayed) (after : List ℕ) (k : ℕ) (p : Parted text.now)
-    → told_verdict r.verdict ≡ refused k → r.line ≡ following r.ledger.lines
+    → told_replay r.answer ≡ refused k → told_line r.answer ≡ following r.ledger.lines
     → replayed (written_all p.lines) (book_of l list.now) ≡ (accepted, 0, book_of r.ledger after)
     → taken (front p.rest) (book_of r.ledger after) ≡ refused k → KeptLines l text list r after k
 kept l text list r after k p v n before why = record {
@@ -439,7 +454,7 @@ refusals_keep : RefusedLineKeeps
 refusals_keep l text list r after k g v =
     let b : Book = book_of l list.now in
     let c : Book = book_of r.ledger after in
-    let h = Texts.refusal_keeps text.now k r.line b c (sym (outcome l text list r after g) ∙ ap (λ (x : Consent). (x, r.line, c)) v) in
+    let h = Texts.refusal_keeps text.now k (told_line r.answer) b c (sym (outcome l text list r after g) ∙ ap (λ (x : Consent). (x, told_line r.answer, c)) v) in
     let p = parted_at h.good h.bad h.rest text.now h.lines in
     kept l text list r after k p.at v h.number (taken_alone b p.at p.good_are ∙ h.before)
     (ap (λ (o : Option TraceLine). taken o c) p.bad_is ∙ h.why)

@@ -72,8 +72,7 @@ module _ (rules : Rules) (frame : ℕ) (stream : Bor (List ℕ)) where
       by (no h) =
           let w = written_all.no_room out (given n) after l (omega arith) in
           let told : ◌≡◌ {A = Answer ℕ} (given n) (refused 4) = w.0 in
-          let no_way : ◌≡◌ {A = ℕ} 0 1 = cc in
-          absurd (omega arith)
+          cc
 
 pub text_fixes : TextFixes
 text_fixes rules f g s t o p n after after' l l' e =

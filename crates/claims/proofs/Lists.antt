@@ -88,7 +88,7 @@ module _ (rules : Rules) where
   Low (r ∷ rs) = (r.cid < 256) × Low rs
 
   cid_low : (rs : List Row) → Low rs → (d : Direction) (c n : ℕ) → length_in rs d c ≡ some n → c < 256
-  cid_low [] w d c n e = let z : ◌≡◌ {A = ℕ} 0 1 = cc in absurd (omega arith)
+  cid_low [] w d c n e = cc
   cid_low (r ∷ rs) w d c n e = by (eqb c r.cid) refl e (cid_low rs w.1 d c n)
     where
       by : (t : Bool) → eqb c r.cid ≡ t → cond t (some (side_of d r.bytes_down r.bytes_up)) (length_in rs d c) ≡ some n

@@ -113,7 +113,7 @@ record_there rules frame stream at r e = record {
 -- ---- in a build
 
 -- two that each answer as their definition says, where the definitions agree
-same_outcome : {X : Type 0} (B : X → List ℕ → Built → List ℕ → Type 2) (says : X → List ℕ → Built × List ℕ)
+same_outcome : {X : Type 0} (B : X → List ℕ → Built → List ℕ → Type 0) (says : X → List ℕ → Built × List ℕ)
     → ((x : X) (before after : List ℕ) (a : Built) → B x before a after → ◌≡◌ {A = Built × List ℕ} (a, after) (says x before))
     → (x y : X) → ((before : List ℕ) → says x before ≡ says y before) → SameOutcome B x y
 same_outcome B says h x y e before after after' a b p q = both (h x before after a p ∙ e before ∙ sym (h y before after' b q))
@@ -144,19 +144,18 @@ pub origins_tell : OriginsTell
 origins_tell = record {
   walked = records_of_the_walk;
   there = λ rules frame stream at r g. record_there rules frame stream at r g.1.1;
-  next_there = λ frame it r κs exit g.
-      let e = next_record_says it frame r κs exit g in
+  next_there = λ frame it r it' g.
+      let e = next_record_says it frame r it' g in
       record {
         there = record_there it.now.rules frame it.now.«data» it.now.index r (ap (λ x. x.0) e);
-        moved = λ q κs' exit' h. ap (λ x. x.1) e ∙ sym (ap (λ x. x.1) (next_says it q κs' exit' h));
+        moved = λ q it'' h. ap (λ x. x.1) e ∙ sym (ap (λ x. x.1) (next_says it q it'' h));
       };
   of_no_frame = record {
     new = λ cid len payload r g. none_says _ r g.1.1;
     none = λ r g. g.1.1;
     of_uplink = λ c r g. none_says _ r g.1.1;
     of_downlink = λ c r g. none_says _ r g.1.1;
-    of_uplink_creator = λ c r g. none_says _ r g.1.1;
-    of_downlink_creator = λ c r g. none_says _ r g.1.1;
+    of_creator = λ K laws copy kind d clone e c r g. none_says _ r g.1.1;
   };
   uncounted = λ rs qs e. subst (EqualLists (map held_by rs)) e (equal_self (map held_by rs));
   built_alike = builds_alike;

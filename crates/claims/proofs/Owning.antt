@@ -169,9 +169,9 @@ module _ (rules : Rules) (stream : Bor (List ℕ)) where
           let len : h.len ≡ length c.body = ap len_of (sym told) in
           let next_is : next ≡ n = cc in
           (q.1.1 ∙ ap (payload_part stream at) e, omega (arith, g.behind), omega (arith, g.fits))
-      by (given ended) f h next e = let told = sym (ap in_numbers f) ∙ e in let z : ◌≡◌ {A = ℕ} 0 1 = cc in absurd (omega arith)
-      by (given (stopped k o)) f h next e = let told = sym (ap in_numbers f) ∙ e in let z : ◌≡◌ {A = ℕ} 0 1 = cc in absurd (omega arith)
-      by (refused k) f h next e = let told = sym (ap in_numbers f) ∙ e in let z : ◌≡◌ {A = ℕ} 0 1 = cc in absurd (omega arith)
+      by (given ended) f h next e = let told = sym (ap in_numbers f) ∙ e in cc
+      by (given (stopped k o)) f h next e = let told = sym (ap in_numbers f) ∙ e in cc
+      by (refused k) f h next e = let told = sym (ap in_numbers f) ∙ e in cc
 
       none : (a : Answer (Found Heading)) → NoCommand (with_payload a []) → shown p ≡ payload_part stream at a → shown p ≡ empty_front stream
       none (given ended) n e = e
@@ -212,4 +212,4 @@ one_owner rules stream = record {
 }
 
 pub next_is_step : NextIsStep
-next_is_step it q r κs exit a g = step_tells (ap (λ x. x.0) (next_says it q κs exit a) ∙ sym g.1.1)
+next_is_step it q r it' a g = step_tells (ap (λ x. x.0) (next_says it q it' a) ∙ sym g.1.1)

@@ -4,24 +4,25 @@ use mathlib.Core.List.{List, [], ◌∷◌, append_assoc}
 use mathlib.Core.Path.{◌≡◌, ap, ◌∙◌}
 use native.Mathlib.Omega.{arith}
 use lib.ListN.{length, take, drop, length-drop}
+use Rattle.std.specs.Prelude.{Result, Ok, Err}
 use Rattle.bits.specs.Memory.{over}
 use Rattle.table.specs.Answers.{given}
+use Rattle.table.specs.Told.{told}
+use Rattle.table.specs.declared.refusal.Refusal.{Refusal}
 use Rattle.fields.specs.Lists.{exactly}
 use Rattle.fields.proofs.Lists.{exactly_given}
 use Rattle.payloads.specs.Bytes.{device_time_ans_bytes}
 use Rattle.payloads.specs.Meanings.{seconds_of}
-use Rattle.payloads.specs.Told.{told_device_time_ans}
-use Rattle.payloads.specs.declared.device_time.DeviceTimeAnsAnswer.{DeviceTimeAnsAnswer}
-use Rattle.payloads.specs.declared.device_time.DeviceTimeAnsAnswer.TheVariants as DeviceTimeAnsAnswer
+use Rattle.payloads.specs.declared.device_time.DeviceTimeAnsPayload.{DeviceTimeAnsPayload}
 use Rattle.creators.specs.Image.{put_bytes}
 use Rattle.creators.specs.Setters.{low_bytes, seconds_at}
 use Rattle.creators.proofs.Setters.{length_seconds, seconds_read}
 use Rattle.claims.specs.Time.{InSeconds, TimeTells}
 
 -- a payload that was read from bytes
-in-seconds : (bytes : List ℕ) (s : ℕ) → seconds_of bytes ≡ s → (a : DeviceTimeAnsAnswer) → told_device_time_ans a ≡ given bytes → InSeconds s a
-in-seconds bytes s e (DeviceTimeAnsAnswer.Read p) t = λ r g. let same : device_time_ans_bytes p ≡ bytes = cc in g.1.1 ∙ ap seconds_of same ∙ e
-in-seconds bytes s e (DeviceTimeAnsAnswer.Refused n) t = let z : ◌≡◌ {A = ℕ} 0 1 = cc in omega arith
+in-seconds : (bytes : List ℕ) (s : ℕ) → seconds_of bytes ≡ s → (a : Result DeviceTimeAnsPayload Refusal) → told device_time_ans_bytes a ≡ given bytes → InSeconds s a
+in-seconds bytes s e (Ok p) t = λ r g. let same : device_time_ans_bytes p ≡ bytes = cc in g.1.1 ∙ ap seconds_of same ∙ e
+in-seconds bytes s e (Err n) t = cc
 
 -- what is written, byte by byte
 four_bytes : (image : List ℕ) (s : ℕ) → seconds_at image s ≡ over image 1 (s % 256 ∷ s / 256 % 256 ∷ s / 256 ^ 2 % 256 ∷ s / 256 ^ 3 % 256 ∷ [])

@@ -1,6 +1,14 @@
--- The contracts that are read over the program logic admit exactly the outcomes that their definitions say: no other, and all of these, so that what
--- is claimed of admitted outcomes (Outcomes.antt) is claimed of something.
-use Rattle.std.specs.Prelude.{ℕ, List, ◌≡◌}
+-- The contracts of crate lent, read as they are written, over the program logic: they admit exactly the outcomes that their definitions say, no other,
+-- and all of these. (Everything else here reads a contract as the check does, by `Gives`, Outcomes.antt.)
+use seplogic.Ra.Ura.{Ura}
+use base.Logic.{SProp, ent}
+use prog.Memory.{Memory}
+use prog.Routine.{Routine}
+use types.Logic.{Logic}
+use contract.Monad.{Fun, fact}
+use denote.Triple.Clauses.{Ended, Clauses, AtExit}
+use denote.Triple.Entry.{Args, Res}
+use Rattle.std.specs.Prelude.{ℕ, List, ◌≡◌, Result}
 use Rattle.std.specs.Borrow.{Bor, MutBor}
 use contract.Lifetimes.{Lfts}
 use Rattle.table.specs.Answers.{Answer}
@@ -13,7 +21,7 @@ use Rattle.walk.specs.declared.step.Step.{Step}
 use Rattle.build.specs.Build.{Built, total_of, build_of}
 use Rattle.build.specs.Told.{told_build, told_handed}
 use Rattle.build.specs.declared.handed.Handed.{Handed}
-use Rattle.build.specs.declared.packed.BuildAnswer.{BuildAnswer}
+use Rattle.build.specs.declared.list.BuildError.{BuildError}
 use Rattle.build.specs.declared.record.Record.{Record}
 use Rattle.lent.specs.Iterator.{fresh, nexted, nexted_record, nth_answer}
 use Rattle.lent.specs.Records.{items_of}
@@ -27,7 +35,20 @@ use Rattle.lent.specs.contracts.iterator.nth_step as nth_step
 use Rattle.lent.specs.contracts.records.records_len as records_len
 use Rattle.lent.specs.contracts.records.build_records as build_records
 use Rattle.lent.specs.contracts.records.build_four as build_four
-use Rattle.claims.specs.Outcomes.{Admits}
+
+-- a function's clauses, at any model of memory
+abbrev pub AnyClauses : Ended → Type 2
+AnyClauses T = (M : Type 1) (𝓤 : Ura M) (𝓛 : Logic 𝓤) → (Memory → SProp 𝓤) → (Routine → Fun 𝓤) → Clauses 𝓤 T
+
+-- a contract as it is written, over the program logic, admits an outcome: whatever proposition its
+-- `ensures` says of the outcome, in every model of memory, is so. (A fact in the program logic is known without its proof, so of a type that
+-- has several proofs it tells none.)
+abbrev pub Admits : (T : Ended) → AnyClauses T → (κs : Lfts T.signature.lifetimes) → Args T.signature κs → Res T.signature κs → AtExit T κs → Type 2
+Admits T clauses κs a x exit =
+    (φ : Type 0) → IsProp φ
+    → ((M : Type 1) (𝓤 : Ura M) (𝓛 : Logic 𝓤) (mem : Memory → SProp 𝓤) (run : Routine → Fun 𝓤) (g : (clauses M 𝓤 𝓛 mem run κs a).ghost)
+    → ent 𝓤 ((clauses M 𝓤 𝓛 mem run κs a).ensures g x exit) (fact 𝓤 φ))
+    → φ
 
 -- one is so exactly where the other is
 abbrev pub Exactly : Type 2 → Type 0 → Type 2
@@ -48,14 +69,14 @@ pub record ByHand : Type 2 where
       (◌≡◌ {A = (Answer (Found Heading) × Record) × MacCommandIterator} (told_handed r, exit.0.now) (nexted_record frame it.now))
   pub nth_step : (κs : Lfts 1) (rules : Rules) (s : Bor (List ℕ)) (n : ℕ) (r : Step) (exit : Rules × (Bor (List ℕ) × (ℕ × Unit)))
       → Exactly (Admits nth_step.ended (λ M 𝓤 𝓛. nth_step.clauses 𝓛) κs (rules, (s, (n, tt))) r exit) (told_step r ≡ nth_answer (length_of rules) s.now n)
-  pub records_len : (κs : Lfts 1) (rules : Rules) (records : Bor (List Record)) (r : BuildAnswer) (exit : Rules × (Bor (List Record) × Unit))
+  pub records_len : (κs : Lfts 1) (rules : Rules) (records : Bor (List Record)) (r : Result ℕ BuildError) (exit : Rules × (Bor (List Record) × Unit))
       → Exactly (Admits records_len.ended (λ M 𝓤 𝓛. records_len.clauses 𝓛) κs (rules, (records, tt)) r exit)
       (told_build r ≡ total_of (length_of rules) (items_of records.now))
-  pub build_records : (κs : Lfts 2) (rules : Rules) (records : Bor (List Record)) (out : MutBor (List ℕ)) (r : BuildAnswer)
+  pub build_records : (κs : Lfts 2) (rules : Rules) (records : Bor (List Record)) (out : MutBor (List ℕ)) (r : Result ℕ BuildError)
       (exit : Rules × (Bor (List Record) × (MutBor (List ℕ) × Unit)))
       → Exactly (Admits build_records.ended (λ M 𝓤 𝓛. build_records.clauses 𝓛) κs (rules, (records, (out, tt))) r exit)
       (◌≡◌ {A = Built × List ℕ} (told_build r, exit.1.1.0.now) (build_of (length_of rules) (items_of records.now) out.now))
-  pub build_four : (κs : Lfts 1) (rules : Rules) (records : List Record) (out : MutBor (List ℕ)) (r : BuildAnswer)
+  pub build_four : (κs : Lfts 1) (rules : Rules) (records : List Record) (out : MutBor (List ℕ)) (r : Result ℕ BuildError)
       (exit : Rules × (List Record × (MutBor (List ℕ) × Unit)))
       → Exactly (Admits build_four.ended (λ M 𝓤 𝓛. build_four.clauses 𝓛) κs (rules, (records, (out, tt))) r exit)
       (◌≡◌ {A = Built × List ℕ} (told_build r, exit.1.1.0.now) (build_of (length_of rules) (items_of records) out.now))

@@ -9,7 +9,7 @@ use Rattle.claims.specs.ByHand.{ByHand}
 use Rattle.claims.specs.Choosing.{Chooser}
 use Rattle.claims.specs.Delay.{DelayTells}
 use Rattle.claims.specs.DutyCycle.{DutyCycleTells}
-use Rattle.claims.specs.Examples.{ExamplesHold, Lifted}
+use Rattle.claims.specs.Examples.{ExamplesHold}
 use Rattle.claims.specs.Flags.{FlagsTell}
 use Rattle.claims.specs.Jumping.{JumpsTell}
 use Rattle.claims.specs.Keeping.{RefusalsKeep, MasksTell}
@@ -23,15 +23,15 @@ pub record Demands : Type 2 where
   -- D1: a refusal leaves things as they were. (That every entry takes every input, and ends, is what a proved function with no `requires` is.)
   pub refusals_keep : RefusalsKeep
   -- what a mask tells
-  pub masks_tell : Lifted MasksTell
+  pub masks_tell : MasksTell
   -- T2 and T3: what a command type tells of its direction
-  pub flags_tell : Lifted FlagsTell
+  pub flags_tell : FlagsTell
   -- Y9 and K8: the seconds as they are read and as they are set
-  pub time_tells : Lifted TimeTells
+  pub time_tells : TimeTells
   -- Y3, Y5 and P18: the part of the time in which a device may send, by its value and by its bits
-  pub duty_cycle_tells : Lifted DutyCycleTells
+  pub duty_cycle_tells : DutyCycleTells
   -- Y7, K10 and P19: the delay in seconds, as it is read, and set and read again; X9 and X11: as the ledger holds it; and its byte as it was sent
-  pub delay_tells : Lifted DelayTells
+  pub delay_tells : DelayTells
   -- D2: the examples hold. (That the answers equal the Rust's, but for A6, is shown by runs, docs/ORACLE.md.)
   pub examples : ExamplesHold
   -- D3a to D3c: each byte of each stream has one owner; and W8: where steps lead
@@ -44,9 +44,9 @@ pub record Demands : Type 2 where
   -- the claims that speak of contracts over the program logic speak of something
   pub by_hand : ByHand
   -- C1 to C4: where in a frame the commands are
-  pub chooser : Lifted Chooser
+  pub chooser : Chooser
   -- J1 to J7 and J9: a command by its number
-  pub jumps_tell : Lifted JumpsTell
+  pub jumps_tell : JumpsTell
   -- L1 to L9, L11 and L13: the listing says what is read
   pub listings_tell : ListingsTell
   -- X1 to X17: the ledger names each setting's parent, none is missing and none invented; and D1 as it reads there

@@ -1,24 +1,22 @@
 -- The examples of RULES, P1 to P15 and P17, as one list. Each holds of every outcome that the contracts of the functions that it names admit.
-use Rattle.std.specs.Prelude.{ℕ, Bool, true, false, List, [], ◌∷◌, ◌++◌, map, ◌≡◌, ℤ, pos, neg_ℤ}
-use Rattle.std.specs.Borrow.{Bor}
+use lib.Dec.{lit<}
+use mir.Syntax.{w64}
+use mir.Val.{Fits}
+use Rattle.std.specs.Prelude.{ℕ, Bool, true, false, List, [], ◌∷◌, ◌++◌, map, ◌≡◌, ℤ, pos, neg_ℤ, Result, Ok, Err}
+use Rattle.std.specs.Borrow.{Bor, MutBor}
 use Rattle.table.specs.Answers.{Answer, Consent, given, refused, accepted}
 use Rattle.table.specs.Table.{named}
-use Rattle.table.specs.Told.{told_verdict}
+use Rattle.table.specs.Told.{told, told_verdict}
+use Rattle.table.specs.declared.refusal.Refusal.{Refusal}
 use Rattle.table.specs.declared.rules.Direction.{Direction}
 use Rattle.table.specs.declared.rules.Direction.TheVariants.{Down, Up}
 use Rattle.table.specs.declared.rules.Rules.{Rules}
-use Rattle.fields.specs.Told.{told_range, told_enabled}
-use Rattle.fields.specs.declared.channel_mask.ChannelMask2Answer.{ChannelMask2Answer}
-use Rattle.fields.specs.declared.channel_mask.EnabledAnswer.{EnabledAnswer}
-use Rattle.fields.specs.declared.data_rate_range.DataRateRangeAnswer.{DataRateRangeAnswer}
-use Rattle.fields.specs.declared.frequency.FrequencyAnswer.{FrequencyAnswer}
-use Rattle.fields.specs.declared.frequency.FrequencyAnswer.TheVariants as FrequencyAnswer
+use Rattle.fields.specs.declared.channel_mask.ChannelMask.{ChannelMask}
+use Rattle.fields.specs.declared.data_rate_range.DataRateRange.{DataRateRange}
+use Rattle.fields.specs.declared.frequency.Frequency.{Frequency}
 use Rattle.creators.specs.declared.dev_status.DevStatusAnsCreator.{DevStatusAnsCreator}
-use Rattle.creators.specs.declared.dev_status.DevStatusAnsCreatorAnswer.{DevStatusAnsCreatorAnswer}
 use Rattle.creators.specs.declared.device_time.DeviceTimeAnsCreator.{DeviceTimeAnsCreator}
-use Rattle.creators.specs.declared.device_time.DeviceTimeAnsCreatorAnswer.{DeviceTimeAnsCreatorAnswer}
 use Rattle.creators.specs.declared.tx_param_setup.TXParamSetupReqCreator.{TXParamSetupReqCreator}
-use Rattle.creators.specs.declared.tx_param_setup.TXParamSetupReqCreatorAnswer.{TXParamSetupReqCreatorAnswer}
 use Rattle.walk.specs.Walk.{Placed, placed, Ending, end, stop}
 use Rattle.build.specs.Equal.{EqualLists}
 use Rattle.build.specs.Handed.{from_frame}
@@ -30,8 +28,8 @@ use Rattle.lent.specs.Records.{items_of}
 use Rattle.fields.proofs.frequency.Frequency.new.Reads as frequency_new
 use Rattle.fields.proofs.frequency.Frequency.value.Reads as frequency_value
 use Rattle.fields.proofs.data_rate_range.DataRateRange.new.Reads as range_new
-use Rattle.fields.proofs.channel_mask.ChannelMask2.is_enabled.Reads as is_enabled
-use Rattle.fields.proofs.channel_mask.ChannelMask2.set_channel.Reads as set_channel
+use Rattle.fields.proofs.channel_mask.ChannelMask.is_enabled.Reads as is_enabled
+use Rattle.fields.proofs.channel_mask.ChannelMask.set_channel.Reads as set_channel
 use Rattle.payloads.proofs.dev_status.DevStatusAnsPayload.margin.Reads as margin
 use Rattle.payloads.proofs.link_adr.LinkADRAnsPayload.ack.Reads as link_adr_ack
 use Rattle.payloads.proofs.new_channel.NewChannelAnsPayload.ack.Reads as new_channel_ack
@@ -39,15 +37,15 @@ use Rattle.payloads.proofs.dl_channel.DlChannelAnsPayload.ack.Reads as dl_channe
 use Rattle.payloads.proofs.tx_param_setup.TXParamSetupReqPayload.max_eirp.Reads as max_eirp
 use Rattle.payloads.proofs.device_time.DeviceTimeAnsPayload.seconds.Reads as seconds_read
 use Rattle.creators.proofs.dev_status.DevStatusAnsCreator.set_margin.Reads as set_margin
-use Rattle.creators.proofs.device_time.DeviceTimeAnsCreator.new.Reads as device_time_new
+use Rattle.creators.proofs.device_time.DeviceTimeAnsCreatorCreator6.new.Reads as device_time_new
 use Rattle.creators.proofs.device_time.DeviceTimeAnsCreator.set_seconds.Reads as set_seconds
 use Rattle.creators.proofs.device_time.DeviceTimeAnsCreator.set_nano_seconds.Reads as set_nano_seconds
-use Rattle.creators.proofs.tx_param_setup.TXParamSetupReqCreator.new.Reads as tx_param_new
+use Rattle.creators.proofs.tx_param_setup.TXParamSetupReqCreatorCreator2.new.Reads as tx_param_new
 use Rattle.creators.proofs.tx_param_setup.TXParamSetupReqCreator.set_max_eirp.Reads as set_max_eirp
 use Rattle.creators.proofs.tx_param_setup.TXParamSetupReqCreator.set_downlink_dwell_time.Reads as set_dwell
 use Rattle.claims.specs.Building.{FromSlots, FromStructs}
 use Rattle.claims.specs.Handing.{ReadAs, HandsOut, record_steps, record_iterator}
-use Rattle.claims.specs.Outcomes.{Gives}
+use Rattle.claims.specs.Outcomes.{Gives, GivesWith}
 
 -- the answers whose `ack` P9 asks
 pub data Answering : Type 0 where
@@ -84,7 +82,7 @@ pub data Example : Type 0 where
   range : ℕ → Answer ℕ → Example
 
 -- these records are handed out, by either entry, and then this ending
-pub record HandedOut (rules : Rules) (frame : ℕ) (stream : Bor (List ℕ)) (records : List Record) (ending : Ending) : Type 2 where
+pub record HandedOut (rules : Rules) (frame : ℕ) (stream : Bor (List ℕ)) (records : List Record) (ending : Ending) : Type 0 where
   pub cmds : List Placed
   pub same : map (from_frame frame) cmds ≡ records
   pub by-offsets : HandsOut (record_steps rules frame stream) (from_frame frame) cmds ending
@@ -97,14 +95,15 @@ Says NewChannelAns b it = (r : Bool) → Gives new_channel_ack.Post (record { 0 
 Says DlChannelAns b it = (r : Bool) → Gives dl_channel_ack.Post (record { 0 = b }, tt) r → r ≡ it
 
 -- a frequency was read, and its value may only be this
-abbrev pub InHertz : ℕ → FrequencyAnswer → Type 0
-InHertz hz (FrequencyAnswer.Read f) = (r : ℕ) → Gives frequency_value.Post (f, tt) r → r ≡ hz
-InHertz hz (FrequencyAnswer.Refused n) = ⊥
+abbrev pub InHertz : ℕ → Result Frequency Refusal → Type 0
+InHertz hz (Ok f) = (r : ℕ) → Gives frequency_value.Post (f, tt) r → r ≡ hz
+InHertz hz (Err n) = ⊥
 
 -- a fresh creator, then two setters, and the reader of what they wrote
 pub record PowerThenDwell (index byte dBm : ℕ) : Type 0 where
-  pub set : (c d : TXParamSetupReqCreator) (r : TXParamSetupReqCreatorAnswer) → Gives tx_param_new.Post tt c → Gives set_max_eirp.Post (c, (index, tt)) r
-      → Gives set_dwell.Post (r.creator, tt) d → (told_verdict r.verdict ≡ accepted) × (d.«data» ≡ (named "TXParamSetupReq").cid ∷ byte ∷ [])
+  pub set : (c : MutBor TXParamSetupReqCreator) (r : Result Unit Refusal) (c' d : TXParamSetupReqCreator) → Gives tx_param_new.Post tt c.now
+      → GivesWith (λ s. s.0.now) set_max_eirp.Post (c, (index, tt)) r c' → Gives set_dwell.Post (c', tt) d
+      → (told_verdict r ≡ accepted) × (d.«data» ≡ (named "TXParamSetupReq").cid ∷ byte ∷ [])
   pub read : (r : ℕ) → Gives max_eirp.Post (record { 0 = byte }, tt) r → r ≡ dBm
 
 pub record SecondsThere (s a b c d back : ℕ) : Type 0 where
@@ -113,32 +112,35 @@ pub record SecondsThere (s a b c d back : ℕ) : Type 0 where
   pub read : (r : ℕ) → Gives seconds_read.Post (record { 0 = a; 1 = b; 2 = c; 3 = d; 4 = 0 }, tt) r → r ≡ back
 
 -- by either build
-pub record BuildsTo (slots : List ℕ) (records : List Record) (before : List ℕ) (answer : Built) (after : List ℕ) : Type 2 where
+pub record BuildsTo (slots : List ℕ) (records : List Record) (before : List ℕ) (answer : Built) (after : List ℕ) : Type 0 where
   pub same : EqualLists (recs_in (slots_of slots)) (map held_by records)
   pub packed : (a : Built) (o : List ℕ) → FromSlots (record { direction = Up }) (slots_of slots) before a o → (a ≡ answer) × (o ≡ after)
   pub structs : (a : Built) (o : List ℕ) → FromStructs (record { direction = Up }) (items_of records) before a o → (a ≡ answer) × (o ≡ after)
 
--- a statement in the universe of those that speak of contracts over the program logic
-pub record Lifted (P : Type 0) : Type 2 where
-  pub so : P
+-- a mask has two bytes
+abbrev pub two_fits : Fits w64 2
+two_fits = record { fits = lit< tt }
 
-abbrev pub Holds : Example → Type 2
+abbrev pub Holds : Example → Type 0
 Holds (reads d bytes cmds ending) = (stream : Bor (List ℕ)) → stream.now ≡ bytes → ReadAs (record { direction = d }) stream cmds ending
 Holds (hands d frame bytes records ending) = (stream : Bor (List ℕ)) → stream.now ≡ bytes → HandedOut (record { direction = d }) frame stream records ending
-Holds (frequency bytes hz) = Lifted ((s : Bor (List ℕ)) → s.now ≡ bytes → (a : FrequencyAnswer) → Gives frequency_new.Post (s, tt) a → InHertz hz a)
-Holds (margin_reads b m) = Lifted ((battery : ℕ) (r : ℤ) → Gives margin.Post (record { 0 = battery; 1 = b }, tt) r → r ≡ m)
+Holds (frequency bytes hz) = (s : Bor (List ℕ)) → s.now ≡ bytes → (a : Result Frequency Refusal) → Gives frequency_new.Post (s, tt) a → InHertz hz a
+Holds (margin_reads b m) = (battery : ℕ) (r : ℤ) → Gives margin.Post (record { 0 = battery; 1 = b }, tt) r → r ≡ m
 Holds (no_margin m) =
-    Lifted ((c : DevStatusAnsCreator) (r : DevStatusAnsCreatorAnswer) → Gives set_margin.Post (c, (m, tt)) r → (told_verdict r.verdict ≡ refused 9) × (r.creator ≡ c))
-Holds (says a b it) = Lifted (Says a b it)
+    (c : MutBor DevStatusAnsCreator) (r : Result Unit Refusal) (c' : DevStatusAnsCreator) → GivesWith (λ s. s.0.now) set_margin.Post (c, (m, tt)) r c'
+    → (told_verdict r ≡ refused 9) × (c' ≡ c.now)
+Holds (says a b it) = Says a b it
 Holds (nano_seconds before n v after) =
-    Lifted ((r : DeviceTimeAnsCreatorAnswer) → Gives set_nano_seconds.Post (record { «data» = before }, (n, tt)) r → (told_verdict r.verdict ≡ v) × (r.creator.«data» ≡ after))
-Holds (power_then_dwell index byte dBm) = Lifted (PowerThenDwell index byte dBm)
-Holds (seconds s a b c d back) = Lifted (SecondsThere s a b c d back)
+    (c : MutBor DeviceTimeAnsCreator) (r : Result Unit Refusal) (c' : DeviceTimeAnsCreator) → c.now.«data» ≡ before
+    → GivesWith (λ s. s.0.now) set_nano_seconds.Post (c, (n, tt)) r c' → (told_verdict r ≡ v) × (c'.«data» ≡ after)
+Holds (power_then_dwell index byte dBm) = PowerThenDwell index byte dBm
+Holds (seconds s a b c d back) = SecondsThere s a b c d back
 Holds (builds slots records before answer after) = BuildsTo slots records before answer after
-Holds (channel m c on) = Lifted ((r : EnabledAnswer) → Gives is_enabled.Post (record { 0 = m }, (c, tt)) r → told_enabled r ≡ on)
+Holds (channel m c on) = (r : Result Bool Refusal) → Gives (is_enabled.Post 2 two_fits) (record { 0 = m }, (c, tt)) r → told (λ (x : Bool). x) r ≡ on
 Holds (channel_set m c on v after) =
-    Lifted ((r : ChannelMask2Answer) → Gives set_channel.Post (record { 0 = m }, (c, (on, tt))) r → (told_verdict r.verdict ≡ v) × (r.mask.0 ≡ after))
-Holds (range b r) = Lifted ((a : DataRateRangeAnswer) → Gives range_new.Post (b, tt) a → told_range a ≡ r)
+    (k : MutBor (ChannelMask 2)) (r : Result Unit Refusal) (k' : ChannelMask 2) → k.now.0 ≡ m
+    → GivesWith (λ s. s.0.now) (set_channel.Post 2 two_fits) (k, (c, (on, tt))) r k' → (told_verdict r ≡ v) × (k'.0 ≡ after)
+Holds (range b r) = (a : Result DataRateRange Refusal) → Gives range_new.Post (b, tt) a → told (λ (x : DataRateRange). x.0) a ≡ r
 
 -- ---- P1 to P15, P17
 
@@ -245,9 +247,9 @@ abbrev pub examples : List Example
 examples = p1to6 ++ (p7to9 ++ (p10to13 ++ (p14and15 ++ p17)))
 
 -- the single claim: each of them holds
-abbrev pub All : List Example → Type 2
-All [] = Lifted Unit
+abbrev pub All : List Example → Type 0
+All [] = Unit
 All (e ∷ es) = Holds e × All es
 
-abbrev pub ExamplesHold : Type 2
+abbrev pub ExamplesHold : Type 0
 ExamplesHold = All examples

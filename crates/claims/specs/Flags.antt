@@ -3,26 +3,26 @@
 use Rattle.std.specs.Prelude.{Bool, true, false, ◌≡◌}
 use Rattle.payloads.specs.declared.downlink.DownlinkMacCommand.{DownlinkMacCommand}
 use Rattle.payloads.specs.declared.uplink.UplinkMacCommand.{UplinkMacCommand}
-use Rattle.payloads.proofs.link_check.LinkCheckAnsPayload.uplink.Reads as link_check_ans
-use Rattle.payloads.proofs.link_check.LinkCheckReqPayload.uplink.Reads as link_check_req
-use Rattle.payloads.proofs.link_adr.LinkADRReqPayload.uplink.Reads as link_adr_req
-use Rattle.payloads.proofs.link_adr.LinkADRAnsPayload.uplink.Reads as link_adr_ans
-use Rattle.payloads.proofs.duty_cycle.DutyCycleReqPayload.uplink.Reads as duty_cycle_req
-use Rattle.payloads.proofs.duty_cycle.DutyCycleAnsPayload.uplink.Reads as duty_cycle_ans
-use Rattle.payloads.proofs.rx_param_setup.RXParamSetupReqPayload.uplink.Reads as rx_param_setup_req
-use Rattle.payloads.proofs.rx_param_setup.RXParamSetupAnsPayload.uplink.Reads as rx_param_setup_ans
-use Rattle.payloads.proofs.dev_status.DevStatusReqPayload.uplink.Reads as dev_status_req
-use Rattle.payloads.proofs.dev_status.DevStatusAnsPayload.uplink.Reads as dev_status_ans
-use Rattle.payloads.proofs.new_channel.NewChannelReqPayload.uplink.Reads as new_channel_req
-use Rattle.payloads.proofs.new_channel.NewChannelAnsPayload.uplink.Reads as new_channel_ans
-use Rattle.payloads.proofs.rx_timing_setup.RXTimingSetupReqPayload.uplink.Reads as rx_timing_setup_req
-use Rattle.payloads.proofs.rx_timing_setup.RXTimingSetupAnsPayload.uplink.Reads as rx_timing_setup_ans
-use Rattle.payloads.proofs.tx_param_setup.TXParamSetupReqPayload.uplink.Reads as tx_param_setup_req
-use Rattle.payloads.proofs.tx_param_setup.TXParamSetupAnsPayload.uplink.Reads as tx_param_setup_ans
-use Rattle.payloads.proofs.dl_channel.DlChannelReqPayload.uplink.Reads as dl_channel_req
-use Rattle.payloads.proofs.dl_channel.DlChannelAnsPayload.uplink.Reads as dl_channel_ans
-use Rattle.payloads.proofs.device_time.DeviceTimeAnsPayload.uplink.Reads as device_time_ans
-use Rattle.payloads.proofs.device_time.DeviceTimeReqPayload.uplink.Reads as device_time_req
+use Rattle.payloads.proofs.link_check.LinkCheckAnsPayloadCommandType.uplink.Reads as link_check_ans
+use Rattle.payloads.proofs.link_check.LinkCheckReqPayloadCommandType.uplink.Reads as link_check_req
+use Rattle.payloads.proofs.link_adr.LinkADRReqPayloadCommandType.uplink.Reads as link_adr_req
+use Rattle.payloads.proofs.link_adr.LinkADRAnsPayloadCommandType.uplink.Reads as link_adr_ans
+use Rattle.payloads.proofs.duty_cycle.DutyCycleReqPayloadCommandType.uplink.Reads as duty_cycle_req
+use Rattle.payloads.proofs.duty_cycle.DutyCycleAnsPayloadCommandType.uplink.Reads as duty_cycle_ans
+use Rattle.payloads.proofs.rx_param_setup.RXParamSetupReqPayloadCommandType.uplink.Reads as rx_param_setup_req
+use Rattle.payloads.proofs.rx_param_setup.RXParamSetupAnsPayloadCommandType.uplink.Reads as rx_param_setup_ans
+use Rattle.payloads.proofs.dev_status.DevStatusReqPayloadCommandType.uplink.Reads as dev_status_req
+use Rattle.payloads.proofs.dev_status.DevStatusAnsPayloadCommandType.uplink.Reads as dev_status_ans
+use Rattle.payloads.proofs.new_channel.NewChannelReqPayloadCommandType.uplink.Reads as new_channel_req
+use Rattle.payloads.proofs.new_channel.NewChannelAnsPayloadCommandType.uplink.Reads as new_channel_ans
+use Rattle.payloads.proofs.rx_timing_setup.RXTimingSetupReqPayloadCommandType.uplink.Reads as rx_timing_setup_req
+use Rattle.payloads.proofs.rx_timing_setup.RXTimingSetupAnsPayloadCommandType.uplink.Reads as rx_timing_setup_ans
+use Rattle.payloads.proofs.tx_param_setup.TXParamSetupReqPayloadCommandType.uplink.Reads as tx_param_setup_req
+use Rattle.payloads.proofs.tx_param_setup.TXParamSetupAnsPayloadCommandType.uplink.Reads as tx_param_setup_ans
+use Rattle.payloads.proofs.dl_channel.DlChannelReqPayloadCommandType.uplink.Reads as dl_channel_req
+use Rattle.payloads.proofs.dl_channel.DlChannelAnsPayloadCommandType.uplink.Reads as dl_channel_ans
+use Rattle.payloads.proofs.device_time.DeviceTimeAnsPayloadCommandType.uplink.Reads as device_time_ans
+use Rattle.payloads.proofs.device_time.DeviceTimeReqPayloadCommandType.uplink.Reads as device_time_req
 use Rattle.payloads.proofs.downlink.DownlinkMacCommand.uplink.Reads as command_down
 use Rattle.payloads.proofs.uplink.UplinkMacCommand.uplink.Reads as command_up
 use Rattle.claims.specs.Outcomes.{Gives}

@@ -1,10 +1,11 @@
 -- Jumping to a command by its number (RULES: J1 to J7, J9), of every outcome that the contracts admit: what the making of entries leaves, what is answered
 -- with the entries that were made, and what with any others. The walk's list is the one that every function of D3 hands out (`defined`, Owning.antt);
 -- that of a walk from an entry is the one along which steps from there lead (`steps_lead`).
-use Rattle.std.specs.Prelude.{ℕ, zero, suc, ◌+◌, ◌*◌, ◌/◌, ◌%◌, ◌≤◌, ◌<◌, List, [], ◌∷◌, ◌≡◌, length, get_or, take, drop}
+use Rattle.std.specs.Prelude.{ℕ, zero, suc, ◌+◌, ◌*◌, ◌/◌, ◌%◌, ◌≤◌, ◌<◌, List, [], ◌∷◌, ◌≡◌, length, get_or, take, drop, Result}
 use Rattle.std.specs.Borrow.{Bor, MutBor}
 use Rattle.table.specs.Answers.{Answer, given, refused}
 use Rattle.table.specs.Table.{length_of}
+use Rattle.table.specs.declared.refusal.Refusal.{Refusal}
 use Rattle.table.specs.declared.rules.Direction.{Direction}
 use Rattle.table.specs.declared.rules.Direction.TheVariants.{Down, Up}
 use Rattle.table.specs.declared.rules.Rules.{Rules}
@@ -13,8 +14,7 @@ use Rattle.walk.specs.Told.{told_step}
 use Rattle.walk.specs.Walk.{Rule, Placed, walk_from, walk_of}
 use Rattle.jumps.specs.Jump.{Spot, spot_of}
 use Rattle.jumps.specs.Told.{told_entries, told_jump}
-use Rattle.jumps.specs.declared.entries.EntriesAnswer.{EntriesAnswer}
-use Rattle.jumps.specs.declared.jump.JumpAnswer.{JumpAnswer}
+use Rattle.jumps.specs.declared.jump.Spot as Code
 use Rattle.build.specs.declared.handed.Handed.{Handed}
 use Rattle.walk.proofs.step.payload_at.Reads as payload_at
 use Rattle.jumps.proofs.entries.make_entries.Reads as make_entries
@@ -24,11 +24,11 @@ use Rattle.claims.specs.Origins.{Says}
 use Rattle.claims.specs.Outcomes.{Gives, GivesWith}
 
 -- whatever the making may answer, and how it may leave the numbers
-abbrev pub Makes : Rules → (stream : Bor (List ℕ)) (numbers : MutBor (List ℕ)) → EntriesAnswer → (after : List ℕ) → Type 0
+abbrev pub Makes : Rules → (stream : Bor (List ℕ)) (numbers : MutBor (List ℕ)) → Result ℕ Refusal → (after : List ℕ) → Type 0
 Makes rules stream numbers r after = GivesWith (λ s. s.1.1.0.now) make_entries.Post (rules, (stream, (numbers, tt))) r after
 
 -- whatever may be answered to who asks for command n
-abbrev pub Asks : Rules → (stream entries : Bor (List ℕ)) → (n : ℕ) → JumpAnswer → Type 0
+abbrev pub Asks : Rules → (stream entries : Bor (List ℕ)) → (n : ℕ) → Result Code.Spot Refusal → Type 0
 Asks rules stream entries n r = Gives jump_to.Post (rules, (stream, (entries, (n, tt)))) r
 
 -- there is an n-th of these commands, counted from 0, of which this is so
@@ -72,7 +72,7 @@ pub record MadeOf (rules : Rules) (bytes entries : List ℕ) : Type 0 where
   pub stream : Bor (List ℕ)
   pub same : stream.now ≡ bytes
   pub numbers : MutBor (List ℕ)
-  pub answer : EntriesAnswer
+  pub answer : Result ℕ Refusal
   pub after : List ℕ
   pub total : ℕ
   pub made : Makes rules stream numbers answer after
@@ -107,12 +107,12 @@ pub record RecordIs (rules : Rules) (stream : Bor (List ℕ)) (x : Spot) (frame 
 
 -- a stream of a direction, lent numbers, the answer to the making, and the numbers then
 pub record MakesAs (d : Direction) (bytes before : List ℕ) (a : Answer ℕ) (after : List ℕ) : Type 0 where
-  pub so : (stream : Bor (List ℕ)) (numbers : MutBor (List ℕ)) → stream.now ≡ bytes → numbers.now ≡ before → (r : EntriesAnswer) (left : List ℕ)
+  pub so : (stream : Bor (List ℕ)) (numbers : MutBor (List ℕ)) → stream.now ≡ bytes → numbers.now ≡ before → (r : Result ℕ Refusal) (left : List ℕ)
       → Makes (record { direction = d }) stream numbers r left → (told_entries r ≡ a) × (left ≡ after)
 
 -- a stream of a direction, entries, a command's number, and the answer
 pub record JumpsAs (d : Direction) (bytes entries : List ℕ) (n : ℕ) (a : Answer Spot) : Type 0 where
-  pub so : (stream lent : Bor (List ℕ)) → stream.now ≡ bytes → lent.now ≡ entries → (r : JumpAnswer) → Asks (record { direction = d }) stream lent n r → told_jump r ≡ a
+  pub so : (stream lent : Bor (List ℕ)) → stream.now ≡ bytes → lent.now ≡ entries → (r : Result Code.Spot Refusal) → Asks (record { direction = d }) stream lent n r → told_jump r ≡ a
 
 abbrev pub told_spot : (at cid len : ℕ) → Answer Spot
 told_spot at cid len = given (record { at = at; cid = cid; len = len })
@@ -174,13 +174,13 @@ pub record EmptyStream : Type 0 where
 -- ---- all of it
 
 pub record JumpsTell : Type 0 where
-  pub making : (rules : Rules) (stream : Bor (List ℕ)) (numbers : MutBor (List ℕ)) (r : EntriesAnswer) (after : List ℕ) → Makes rules stream numbers r after
+  pub making : (rules : Rules) (stream : Bor (List ℕ)) (numbers : MutBor (List ℕ)) (r : Result ℕ Refusal) (after : List ℕ) → Makes rules stream numbers r after
       → MakingTells (walk_of (length_of rules) stream.now).cmds (length stream.now) numbers.now (told_entries r) after
-  pub own : (rules : Rules) (stream entries : Bor (List ℕ)) → MadeOf rules stream.now entries.now → (n : ℕ) (r : JumpAnswer) → Asks rules stream entries n r
+  pub own : (rules : Rules) (stream entries : Bor (List ℕ)) → MadeOf rules stream.now entries.now → (n : ℕ) (r : Result Code.Spot Refusal) → Asks rules stream entries n r
       → OwnTells (walk_of (length_of rules) stream.now).cmds n (told_jump r)
-  pub any : (rules : Rules) (stream entries : Bor (List ℕ)) (n : ℕ) (r : JumpAnswer) → Asks rules stream entries n r
+  pub any : (rules : Rules) (stream entries : Bor (List ℕ)) (n : ℕ) (r : Result Code.Spot Refusal) → Asks rules stream entries n r
       → AnyTells (length_of rules) stream.now entries.now n (told_jump r)
-  pub its_record : (rules : Rules) (stream entries : Bor (List ℕ)) (n : ℕ) (r : JumpAnswer) (x : Spot) → Asks rules stream entries n r → told_jump r ≡ given x
+  pub its_record : (rules : Rules) (stream entries : Bor (List ℕ)) (n : ℕ) (r : Result Code.Spot Refusal) (x : Spot) → Asks rules stream entries n r → told_jump r ≡ given x
       → (frame : ℕ) (q : Handed) → Gives record_at.Post (rules, (frame, (stream, (x.at, tt)))) q → RecordIs rules stream x frame q
   pub seventeen_commands : SeventeenCommands
   pub stop_after_sixteen : StopAfterSixteen

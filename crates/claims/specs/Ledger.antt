@@ -1,13 +1,13 @@
 -- The ledger of parents (RULES: X1 to X16, X18): what a replayed exchange tells, of every outcome that the contracts of `Ledger::new`, `replay_trace`, the
 -- fifteen methods that ask for a setting, and `entry_at` admit.
-use Rattle.std.specs.Prelude.{ℕ, ◌+◌, ◌*◌, ◌<◌, Bool, true, false, cond, ◌↔◌, ◌≡◌, length, drop}
+use Rattle.std.specs.Prelude.{ℕ, ◌+◌, ◌*◌, ◌<◌, Bool, true, false, ◌↔◌, ◌≡◌, length, drop, Result, None, Some}
+use Rattle.std.specs.Prelude as Std
 use Prim.Native.String.{String}
 use mathlib.Core.List.{List, [], ◌∷◌, ◌++◌, reverse, head?}
 use Rattle.std.proofs.Math.Option.{Option, none, some}
 use Rattle.std.specs.Borrow.{Bor, MutBor}
 use Rattle.bits.specs.Every.{Every}
 use Rattle.table.specs.Answers.{Consent, accepted, refused}
-use Rattle.table.specs.Told.{told_verdict}
 use Rattle.text.specs.Characters.{ascii}
 use Rattle.walk.specs.Walk.{Placed, Ending}
 use Rattle.ledger.specs.Asked.{note_of}
@@ -47,11 +47,12 @@ use Rattle.ledger.specs.Settings.{
   channel_rates,
   downlink_frequency,
 }
+use Rattle.ledger.specs.Told.{told_replay, told_line}
 use Rattle.ledger.specs.Trace.{TraceLine, Lawful, written_all, front, BeginsWith}
 use Rattle.ledger.specs.declared.Ledger.{Ledger}
 use Rattle.ledger.specs.declared.entries.Entry.{Entry}
-use Rattle.ledger.specs.declared.exchange.Replayed.{Replayed}
-use Rattle.ledger.specs.declared.settings.Held.{Held}
+use Rattle.ledger.specs.declared.exchange.BadLine.{BadLine}
+use Rattle.ledger.specs.declared.settings.Parent.{Parent}
 use Rattle.ledger.proofs.Ledger.new.Reads as new
 use Rattle.ledger.proofs.Ledger.data_rate.Reads as data_rate
 use Rattle.ledger.proofs.Ledger.tx_power.Reads as tx_power
@@ -75,9 +76,16 @@ use Rattle.claims.specs.Outcomes.{Gives, GivesWith}
 
 -- ---- what the functions may answer
 
--- a text is replayed into a ledger and a lent list: the outcome may be this, and the list be left so
-abbrev pub Replays : Ledger → (text : Bor (List ℕ)) (list : MutBor (List ℕ)) → Replayed → (after : List ℕ) → Type 0
-Replays l text list r after = GivesWith (λ s. s.1.1.0.now) replay_trace.Post (l, (text, (list, tt))) r after
+-- what a replay comes to: the answer, and the ledger then
+pub record Replayed : Type 0 where
+  pub answer : Result Unit BadLine
+  pub ledger : Ledger
+
+-- a text is replayed into a lent ledger, which is this one, and a lent list: the outcome may be this, and the list be left so
+pub record Replays (l : Ledger) (text : Bor (List ℕ)) (list : MutBor (List ℕ)) (r : Replayed) (after : List ℕ) : Type 0 where
+  pub lent : MutBor Ledger
+  pub same : lent.now ≡ l
+  pub admitted : GivesWith {M = Ledger × List ℕ} (λ s. (s.0.now, s.1.1.0.now)) replay_trace.Post (lent, (text, (list, tt))) r.answer (r.ledger, after)
 
 -- the same into a new ledger
 pub record FromNew (text : Bor (List ℕ)) (list : MutBor (List ℕ)) (r : Replayed) (after : List ℕ) : Type 0 where
@@ -86,7 +94,7 @@ pub record FromNew (text : Bor (List ℕ)) (list : MutBor (List ℕ)) (r : Repla
   pub replays : Replays ledger text list r after
 
 -- a ledger is asked for a setting, by its method: the answer may be this. (A channel is a number below 256 there; what is claimed holds of any.)
-abbrev pub Asks : Setting → Ledger → Held → Type 0
+abbrev pub Asks : Setting → Ledger → Std.Option Parent → Type 0
 Asks data_rate l h = Gives data_rate.Post (l, tt) h
 Asks tx_power l h = Gives tx_power.Post (l, tt) h
 Asks channel_mask l h = Gives channel_mask.Post (l, tt) h
@@ -103,9 +111,10 @@ Asks (channel_frequency i) l h = Gives channel_frequency.Post (l, (i, tt)) h
 Asks (channel_rates i) l h = Gives channel_rates.Post (l, (i, tt)) h
 Asks (downlink_frequency i) l h = Gives downlink_frequency.Post (l, (i, tt)) h
 
--- what that answer says: no parent is known, or the place of the parent, its value and its mark
-abbrev pub told_held : Held → Option Shown
-told_held h = cond h.known (some (record { parent = place h.line h.frame h.offset; value = h.value; unchanged = h.unchanged })) none
+-- what that answer says: no parent, or the place of the parent, its value and its mark
+abbrev pub told_parent : Std.Option Parent → Option Shown
+told_parent None = none
+told_parent (Some p) = some (record { parent = place p.line p.frame p.offset; value = p.value; unchanged = p.unchanged })
 
 -- a list is asked for the entry with this index: the answer may be this
 abbrev pub Enters : Bor (List ℕ) → ℕ → Entry → Type 0
@@ -123,7 +132,7 @@ pub record Tells (lines : List TraceLine) (lent : List ℕ) (l : Ledger) (after 
   -- so many were taken
   pub counted : l.lines ≡ count_of (length lines)
   -- each setting: no parent, if no request writing it was answered yes; else the one answered last, what it says, and its mark
-  pub parents : (σ : Setting) (h : Held) → Asks σ l h → Exact σ (reverse (events 0 lines)) (told_held h)
+  pub parents : (σ : Setting) (h : Std.Option Parent) → Asks σ l h → Exact σ (reverse (events 0 lines)) (told_parent h)
   -- the list: the strays, the yeses to requests for higher channels and the stops, in order; behind them the numbers are as they were lent
   pub notes : List Note
   pub listed : Listed (reverse (events 0 lines)) notes
@@ -141,12 +150,12 @@ pub record TraceText (t : List ℕ) : Type 0 where
 -- a text that is accepted, replayed into a new ledger
 pub record WholeText (text : Bor (List ℕ)) (list : MutBor (List ℕ)) (r : Replayed) (after : List ℕ) : Type 0 where
   pub text_is : TraceText text.now
-  pub line : r.line ≡ 0
+  pub line : told_line r.answer ≡ 0
   pub tells : Tells text_is.lines list.now r.ledger after
 
 abbrev pub WholeTells : Type 0
 WholeTells =
-    (text : Bor (List ℕ)) (list : MutBor (List ℕ)) (r : Replayed) (after : List ℕ) → FromNew text list r after → told_verdict r.verdict ≡ accepted
+    (text : Bor (List ℕ)) (list : MutBor (List ℕ)) (r : Replayed) (after : List ℕ) → FromNew text list r after → told_replay r.answer ≡ accepted
     → WholeText text list r after
 
 -- ---- refusals
@@ -169,27 +178,26 @@ pub record FirstFault (t lent : List ℕ) (k n : ℕ) (b : Book) : Type 0 where
 
 -- a text is refused exactly so, and accepted exactly if no line of it is at fault. D1: ledger and list tell of the lines before that line
 pub record Decided (text : Bor (List ℕ)) (list : MutBor (List ℕ)) (r : Replayed) (after : List ℕ) : Type 0 where
-  pub refuses : (k : ℕ) → (told_verdict r.verdict ≡ refused k) ↔ FirstFault text.now list.now k r.line (book_of r.ledger after)
-  pub accepts : (told_verdict r.verdict ≡ accepted) ↔ ((k n : ℕ) (b : Book) → FirstFault text.now list.now k n b → ⊥)
-  pub tells : (k : ℕ) (f : FirstFault text.now list.now k r.line (book_of r.ledger after)) → Tells f.at.lines list.now r.ledger after
+  pub refuses : (k : ℕ) → (told_replay r.answer ≡ refused k) ↔ FirstFault text.now list.now k (told_line r.answer) (book_of r.ledger after)
+  pub accepts : (told_replay r.answer ≡ accepted) ↔ ((k n : ℕ) (b : Book) → FirstFault text.now list.now k n b → ⊥)
+  pub tells : (k : ℕ) (f : FirstFault text.now list.now k (told_line r.answer) (book_of r.ledger after)) → Tells f.at.lines list.now r.ledger after
 
 abbrev pub RefusesExactly : Type 0
 RefusesExactly = (text : Bor (List ℕ)) (list : MutBor (List ℕ)) (r : Replayed) (after : List ℕ) → FromNew text list r after → Decided text list r after
 
 -- two outcomes are the same: the ledgers, each with its list, are one to whoever asks
 pub record Same (r : Replayed) (after : List ℕ) (s : Replayed) (after' : List ℕ) : Type 0 where
-  pub verdict : r.verdict ≡ s.verdict
-  pub line : r.line ≡ s.line
+  pub answer : r.answer ≡ s.answer
   pub book : book_of r.ledger after ≡ book_of s.ledger after'
 
 -- D1, from any ledger: lines, and then the one that is refused
 pub record KeptLines (l : Ledger) (text : Bor (List ℕ)) (list : MutBor (List ℕ)) (r : Replayed) (after : List ℕ) (k : ℕ) : Type 0 where
   pub at : Parted text.now
   -- its number is the next
-  pub line : r.line ≡ following r.ledger.lines
+  pub line : told_line r.answer ≡ following r.ledger.lines
   -- the lines before it, replayed alone into the same, are accepted, and leave the same ledger and list
   pub before : (alone : Bor (List ℕ)) (lent : MutBor (List ℕ)) (s : Replayed) (after' : List ℕ) → alone.now ≡ written_all at.lines → lent.now ≡ list.now
-      → Replays l alone lent s after' → (told_verdict s.verdict ≡ accepted) × (book_of r.ledger after ≡ book_of s.ledger after')
+      → Replays l alone lent s after' → (told_replay s.answer ≡ accepted) × (book_of r.ledger after ≡ book_of s.ledger after')
   -- what is left, replayed into these, is refused at once, with the same number, and leaves them as they are
   pub again : (left : Bor (List ℕ)) (lent : MutBor (List ℕ)) (s : Replayed) (after' : List ℕ) → left.now ≡ at.rest → lent.now ≡ after
       → Replays r.ledger left lent s after' → Same r after s after'
@@ -200,14 +208,14 @@ pub record KeptLines (l : Ledger) (text : Bor (List ℕ)) (list : MutBor (List �
 abbrev pub RefusedLineKeeps : Type 0
 RefusedLineKeeps =
     (l : Ledger) (text : Bor (List ℕ)) (list : MutBor (List ℕ)) (r : Replayed) (after : List ℕ) (k : ℕ) → Replays l text list r after
-    → told_verdict r.verdict ≡ refused k → KeptLines l text list r after k
+    → told_replay r.answer ≡ refused k → KeptLines l text list r after k
 
 -- ---- the text's form
 
 -- what is accepted, by any ledger, is the text of lawful lines, and a text is that of one list of lines only
 pub record FormIs : Type 0 where
   pub accepted_is : (l : Ledger) (text : Bor (List ℕ)) (list : MutBor (List ℕ)) (r : Replayed) (after : List ℕ) → Replays l text list r after
-      → told_verdict r.verdict ≡ accepted → TraceText text.now
+      → told_replay r.answer ≡ accepted → TraceText text.now
   pub one : (ls ms : List TraceLine) → Every Lawful ls → Every Lawful ms → written_all ls ≡ written_all ms → ls ≡ ms
 
 -- ---- line by line
@@ -217,7 +225,7 @@ pub record InTwo (l : Ledger) (text more : Bor (List ℕ)) (list : MutBor (List 
   pub first : Replayed
   pub left : MutBor (List ℕ)
   pub one : Replays l text list first left.now
-  pub whole : told_verdict first.verdict ≡ accepted
+  pub whole : told_replay first.answer ≡ accepted
   pub two : Replays first.ledger more left r after
 
 -- come to the same as one, of both texts joined: a capture can be replayed as it comes
@@ -230,7 +238,7 @@ FedAsItComes =
 pub record Alike (l m : Ledger) (list list' : List ℕ) : Type 0 where
   pub lists : list ≡ list'
   pub counts : (l.lines ≡ m.lines) × (l.listed ≡ m.listed)
-  pub settings : (σ : Setting) (h g : Held) → Asks σ l h → Asks σ m g → h ≡ g
+  pub settings : (σ : Setting) (h g : Std.Option Parent) → Asks σ l h → Asks σ m g → h ≡ g
   pub on : (text : Bor (List ℕ)) (lent : MutBor (List ℕ)) (text' : Bor (List ℕ)) (lent' : MutBor (List ℕ)) (r s : Replayed) (after after' : List ℕ)
       → text.now ≡ text'.now → lent.now ≡ list → lent'.now ≡ list' → Replays l text lent r after → Replays m text' lent' s after'
       → Same r after s after'
@@ -242,7 +250,7 @@ BooksTell = (l m : Ledger) (list list' : List ℕ) → book_of l list ≡ book_o
 
 -- the events of a line are the commands that every entry hands out of its stream (D3), each once and in order, and the stop that it tells: no command
 -- is stepped over, and none is made up
-pub record NothingGuessed (n : ℕ) (l : TraceLine) (stream : Bor (List ℕ)) : Type 2 where
+pub record NothingGuessed (n : ℕ) (l : TraceLine) (stream : Bor (List ℕ)) : Type 0 where
   pub cmds : List Placed
   pub ending : Ending
   pub read : ReadAs (rules_for l) stream cmds ending
@@ -261,11 +269,11 @@ abbrev pub lent_nine : List ℕ
 lent_nine = 90 ∷ 91 ∷ 92 ∷ 93 ∷ 94 ∷ 95 ∷ 96 ∷ 97 ∷ 98 ∷ []
 
 abbrev pub Answers : Ledger → Setting × Option Shown → Type 0
-Answers l x = (h : Held) → Asks x.0 l h → told_held h ≡ x.1
+Answers l x = (h : Std.Option Parent) → Asks x.0 l h → told_parent h ≡ x.1
 
 pub record ComesTo (e : Example) (r : Replayed) (after : List ℕ) : Type 0 where
-  pub verdict : told_verdict r.verdict ≡ e.verdict
-  pub line : r.line ≡ e.line
+  pub verdict : told_replay r.answer ≡ e.verdict
+  pub line : told_line r.answer ≡ e.line
   pub shows : Every (Answers r.ledger) e.shows
   pub count : r.ledger.listed ≡ length e.entries
   pub entries : EntriesAre after e.entries
@@ -361,7 +369,7 @@ examples =
 
 -- ---- the claims
 
-pub record LedgerTells : Type 2 where
+pub record LedgerTells : Type 0 where
   -- X9 to X12: of every text that is accepted, each setting names its parent exactly, and the list is exact
   pub whole_tells : WholeTells
   -- X13, X14: a text is refused exactly where its first line at fault is; and what a refusal leaves, of any ledger

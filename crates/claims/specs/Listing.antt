@@ -1,9 +1,10 @@
 -- The listing says what is read (RULES: L1 to L9, L11, L13, F3): of every outcome that the contracts of `write_listing` and `listing_len` admit.
-use Rattle.std.specs.Prelude.{ℕ, ◌<◌, ◌≤◌, List, [], ◌∷◌, ◌++◌, map, ◌≡◌, length, take, drop}
+use Rattle.std.specs.Prelude.{ℕ, ◌<◌, ◌≤◌, List, [], ◌∷◌, ◌++◌, map, ◌≡◌, length, take, drop, Result}
 use Prim.Native.String.{String}
 use Rattle.std.specs.Borrow.{Bor, MutBor}
 use Rattle.bits.specs.Every.{Every}
 use Rattle.table.specs.Answers.{Answer, given, refused}
+use Rattle.table.specs.declared.refusal.Refusal.{Refusal}
 use Rattle.table.specs.declared.rules.Direction.{Direction}
 use Rattle.table.specs.declared.rules.Direction.TheVariants.{Down, Up}
 use Rattle.table.specs.declared.rules.Rules.{Rules}
@@ -13,7 +14,6 @@ use Rattle.walk.specs.Walk.{Placed, Ending}
 use Rattle.listings.specs.Into.{largest}
 use Rattle.listings.specs.Listing.{in_frame, lines_of}
 use Rattle.listings.specs.Told.{told_listing}
-use Rattle.listings.specs.declared.ListingAnswer.{ListingAnswer}
 use Rattle.listings.proofs.passes.listing_len.Reads as listing_len
 use Rattle.listings.proofs.passes.write_listing.Reads as write_listing
 use Rattle.claims.specs.Handing.{ReadAs}
@@ -21,13 +21,13 @@ use Rattle.claims.specs.Outcomes.{Gives, GivesWith}
 
 -- asked to list a stream in a frame into lent memory, the writer may answer so, and leave memory so
 pub record Lists (rules : Rules) (frame : ℕ) (stream : Bor (List ℕ)) (out : MutBor (List ℕ)) (a : Answer ℕ) (after : List ℕ) : Type 0 where
-  pub answer : ListingAnswer
+  pub answer : Result ℕ Refusal
   pub admitted : GivesWith (λ s. s.1.1.1.0.now) write_listing.Post (rules, (frame, (stream, (out, tt)))) answer after
   pub told : told_listing answer ≡ a
 
 -- asked for the length alone, it may answer so
 pub record Sizes (rules : Rules) (frame : ℕ) (stream : Bor (List ℕ)) (a : Answer ℕ) : Type 0 where
-  pub answer : ListingAnswer
+  pub answer : Result ℕ Refusal
   pub admitted : Gives listing_len.Post (rules, (frame, (stream, tt))) answer
   pub told : told_listing answer ≡ a
 
@@ -44,20 +44,20 @@ pub record TextIs (rules : Rules) (frame : ℕ) (stream : Bor (List ℕ)) (t : L
 
 -- L1, L13: what is written is the lines of the commands that every entry hands out of the stream, and the line of the ending that it tells, each
 -- in the frame that the caller gave. So a stop is no refusal (F3)
-pub record SaysWhatIsRead (rules : Rules) (frame : ℕ) (stream : Bor (List ℕ)) : Type 2 where
+pub record SaysWhatIsRead (rules : Rules) (frame : ℕ) (stream : Bor (List ℕ)) : Type 0 where
   pub cmds : List Placed
   pub ending : Ending
   pub read : ReadAs rules stream cmds ending
   pub lines : TextIs rules frame stream (text (map (in_frame frame) (lines_of rules cmds ending)))
 
 -- L11: where the same text is written of two streams, each in a frame, the frames are one, and the same is read of both streams
-pub record ReadAlike (rules : Rules) (s t : Bor (List ℕ)) : Type 2 where
+pub record ReadAlike (rules : Rules) (s t : Bor (List ℕ)) : Type 0 where
   pub cmds : List Placed
   pub ending : Ending
   pub one : ReadAs rules s cmds ending
   pub other : ReadAs rules t cmds ending
 
-abbrev pub TextFixes : Type 2
+abbrev pub TextFixes : Type 0
 TextFixes =
     (rules : Rules) (f g : ℕ) (s t : Bor (List ℕ)) (o p : MutBor (List ℕ)) (n : ℕ) (after after' : List ℕ)
     → Lists rules f s o (given n) after → Lists rules g t p (given n) after' → take n after ≡ take n after' → (f ≡ g) × ReadAlike rules s t
@@ -92,7 +92,7 @@ examples =
 abbrev pub Shown : Example → Type 0
 Shown e = (stream : Bor (List ℕ)) → stream.now ≡ e.bytes → TextIs (record { direction = e.direction }) e.frame stream (ascii e.shown)
 
-pub record ListingsTell : Type 2 where
+pub record ListingsTell : Type 0 where
   pub says_what_is_read : (rules : Rules) (frame : ℕ) (stream : Bor (List ℕ)) → SaysWhatIsRead rules frame stream
   pub text_fixes : TextFixes
   pub shown : Every Shown examples

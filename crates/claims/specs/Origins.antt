@@ -2,15 +2,18 @@
 -- and no offset. Of every outcome that the contracts admit.
 use Rattle.std.specs.Prelude.{ℕ, List, [], ◌∷◌, map, ◌≡◌}
 use Rattle.std.specs.Borrow.{Bor, MutBor}
-use contract.Lifetimes.{Lfts}
+use denote.Param.Laws.{Laws, IsCopy}
+use denote.RattleType.{RattleType}
+use mir.Syntax.{Dict}
+use Rattle.std.specs.declared.clone.Clone as Clone
 use Rattle.bits.specs.Every.{Every}
 use Rattle.table.specs.Answers.{given}
 use Rattle.table.specs.Table.{length_of}
 use Rattle.table.specs.declared.rules.Rules.{Rules}
 use Rattle.payloads.specs.declared.uplink.UplinkMacCommand.{UplinkMacCommand}
 use Rattle.payloads.specs.declared.downlink.DownlinkMacCommand.{DownlinkMacCommand}
-use Rattle.creators.specs.declared.kinds.UplinkMacCommandCreator.{UplinkMacCommandCreator}
-use Rattle.creators.specs.declared.kinds.DownlinkMacCommandCreator.{DownlinkMacCommandCreator}
+use Rattle.creators.specs.declared.kinds.MacCommandCreator.{MacCommandCreator}
+use Rattle.creators.specs.declared.kinds.CommandKind as CommandKind
 use Rattle.walk.specs.Step.{command, Heading}
 use Rattle.walk.specs.Told.{told_step}
 use Rattle.walk.specs.Walk.{Placed, Walk, bare, walk_of}
@@ -29,16 +32,15 @@ use Rattle.walk.proofs.step.payload_at.Reads as payload_at
 use Rattle.build.proofs.handed.record_at.Reads as record_at
 use Rattle.build.proofs.record.Record.new.Reads as new
 use Rattle.build.proofs.record.Record.none.Reads as none
-use Rattle.build.proofs.record.Record.of_uplink.Reads as of_uplink
-use Rattle.build.proofs.record.Record.of_downlink.Reads as of_downlink
-use Rattle.build.proofs.record.Record.of_uplink_creator.Reads as of_uplink_creator
-use Rattle.build.proofs.record.Record.of_downlink_creator.Reads as of_downlink_creator
+use Rattle.build.proofs.sources.RecordFromUplinkMacCommand.from.Reads as of_uplink
+use Rattle.build.proofs.sources.RecordFromDownlinkMacCommand.from.Reads as of_downlink
+use Rattle.build.proofs.sources.RecordFromMacCommandCreator.from.Reads as of_creator
 use Rattle.build.proofs.record.Record.pack.Reads as pack
-use Rattle.lent.specs.contracts.iterator.MacCommandIterator.next as next
-use Rattle.lent.specs.contracts.iterator.MacCommandIterator.next_record as next_record
+use Rattle.lent.proofs.iterator.MacCommandIterator.next.Reads as next
+use Rattle.lent.proofs.iterator.MacCommandIterator.next_record.Reads as next_record
 use Rattle.claims.specs.Building.{SlotsBuilt, StructsBuilt, FourBuilt, SlotsLength, StructsLength}
 use Rattle.claims.specs.Handing.{NoCommand, HandsOut, record_steps, record_iterator}
-use Rattle.claims.specs.Outcomes.{Gives, GivesWith, Admits}
+use Rattle.claims.specs.Outcomes.{Gives, GivesWith}
 
 -- ---- along the walk
 
@@ -53,7 +55,7 @@ module _ (rules : Rules) (stream : Bor (List ℕ)) where
   abbrev w : Walk
   w = walk_of (length_of rules) stream.now
 
-  pub record RecordsOfTheWalk (frame : ℕ) : Type 2 where
+  pub record RecordsOfTheWalk (frame : ℕ) : Type 0 where
     pub by-offsets : HandsOut (record_steps rules frame stream) (from_frame frame) w.cmds w.ending
     pub by_iterator : HandsOut (record_iterator rules frame stream) (from_frame frame) w.cmds w.ending
     pub stamped : Stamped frame w.cmds (map (from_frame frame) w.cmds)
@@ -74,32 +76,33 @@ pub record RecordThere (rules : Rules) (frame : ℕ) (stream : Bor (List ℕ)) (
   pub defined : told_handed r ≡ handed_at (length_of rules) frame stream.now at
 
 -- asked of an iterator, the record is the one at its index, and the iterator is then as `next` would leave it
-pub record RecordNext (frame : ℕ) (it : MutBor MacCommandIterator) (r : Handed) (it' : MacCommandIterator) : Type 2 where
+pub record RecordNext (frame : ℕ) (it : MutBor MacCommandIterator) (r : Handed) (it' : MacCommandIterator) : Type 0 where
   pub there : RecordThere it.now.rules frame it.now.«data» it.now.index r
-  pub moved : (q : Step) (κs : Lfts 2) (exit : MutBor MacCommandIterator × Unit) → Admits next.ended (λ M 𝓤 𝓛. next.clauses 𝓛) κs (it, tt) q exit → it' ≡ exit.0.now
+  pub moved : (q : Step) (it'' : MacCommandIterator) → GivesWith (λ s. s.0.now) next.Post (it, tt) q it'' → it' ≡ it''
 
 -- one that was made of parts, of a command or of a creator came from no frame, and has no place in one
 pub record FromNoFrame (r : Record) : Type 0 where
   pub frame : r.frame ≡ 0
   pub offset : r.offset ≡ 0
 
-pub record MadeOfNoFrame : Type 0 where
+pub record MadeOfNoFrame : Type 2 where
   pub new : (cid len : ℕ) (payload : List ℕ) (r : Record) → Gives new.Post (cid, (len, (payload, tt))) r → FromNoFrame r
   -- and that of no command has nothing in it
   pub none : (r : Record) → Gives none.Post tt r → r ≡ record { cid = 0; payload = 0 ∷ 0 ∷ 0 ∷ 0 ∷ 0 ∷ []; frame = 0; len = 0; offset = 0 }
   pub of_uplink : (c : UplinkMacCommand) (r : Record) → Gives of_uplink.Post (c, tt) r → FromNoFrame r
   pub of_downlink : (c : DownlinkMacCommand) (r : Record) → Gives of_downlink.Post (c, tt) r → FromNoFrame r
-  pub of_uplink_creator : (c : UplinkMacCommandCreator) (r : Record) → Gives of_uplink_creator.Post (c, tt) r → FromNoFrame r
-  pub of_downlink_creator : (c : DownlinkMacCommandCreator) (r : Record) → Gives of_downlink_creator.Post (c, tt) r → FromNoFrame r
+  -- of a creator of either direction: at every type of kinds
+  pub of_creator : (K : RattleType) (laws : Laws K) (copy : IsCopy K) (kind : CommandKind.Ghosts K.Denot) (d : Dict) (clone : Clone.Ghosts K.Denot) (e : Dict)
+      → (c : MacCommandCreator K.Denot) (r : Record) → Gives (of_creator.Post K laws copy kind d clone e) (c, tt) r → FromNoFrame r
 
 -- ---- in a build
 
 -- whatever is answered of the one and of the other, over the same memory, is the same, and so are the bytes then
-abbrev pub SameOutcome : {X : Type 0} → (X → List ℕ → Built → List ℕ → Type 2) → X → X → Type 2
+abbrev pub SameOutcome : {X : Type 0} → (X → List ℕ → Built → List ℕ → Type 0) → X → X → Type 0
 SameOutcome B x y = (before after after' : List ℕ) (a b : Built) → B x before a after → B y before b after' → (a ≡ b) × (after ≡ after')
 
 -- of two lists, as structs and packed
-pub record BuildsAlike (rules : Rules) (rs qs : List Record) : Type 2 where
+pub record BuildsAlike (rules : Rules) (rs qs : List Record) : Type 0 where
   pub structs : SameOutcome (StructsBuilt rules) rs qs
   pub four : SameOutcome (FourBuilt rules) rs qs
   pub slots : (s t : List ℕ) → Packed s rs → Packed t qs → SameOutcome (SlotsBuilt rules) s t
@@ -114,8 +117,8 @@ PacksAlike = (r q : Record) → held_by r ≡ held_by q → (s t : MutBor (List 
 pub record OriginsTell : Type 2 where
   pub walked : (rules : Rules) (stream : Bor (List ℕ)) (frame : ℕ) → RecordsOfTheWalk rules stream frame
   pub there : (rules : Rules) (frame : ℕ) (stream : Bor (List ℕ)) (at : ℕ) (r : Handed) → Gives record_at.Post (rules, (frame, (stream, (at, tt)))) r → RecordThere rules frame stream at r
-  pub next_there : (frame : ℕ) (it : MutBor MacCommandIterator) (r : Handed) (κs : Lfts 2) (exit : MutBor MacCommandIterator × (ℕ × Unit))
-      → Admits next_record.ended (λ M 𝓤 𝓛. next_record.clauses 𝓛) κs (it, (frame, tt)) r exit → RecordNext frame it r exit.0.now
+  pub next_there : (frame : ℕ) (it : MutBor MacCommandIterator) (r : Handed) (it' : MacCommandIterator)
+      → GivesWith (λ s. s.0.now) next_record.Post (it, (frame, tt)) r it' → RecordNext frame it r it'
   pub of_no_frame : MadeOfNoFrame
   -- lists that differ in frames and offsets only are equal, and equal lists are built alike
   pub uncounted : (rs qs : List Record) → map held_by rs ≡ map held_by qs → EqualLists (map held_by rs) (map held_by qs)

@@ -4,4 +4,3 @@ pub mod Padded
 pub mod ReadBack
 pub mod Setters
 pub mod Told
-pub mod Written

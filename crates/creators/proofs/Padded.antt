@@ -1,18 +1,34 @@
 -- What is built from a kind is the image that it was made of, with zeros after it. Assumes nothing.
 use Prim.Native.Nat.{ℕ, ◌+◌, ◌<◌, ◌≤◌}
-use mathlib.Core.Path.{◌≡◌, sym, ap, ◌∙◌}
-use mathlib.Core.List.{List}
+use mathlib.Core.Path.{◌≡◌, refl, sym, ap, ◌∙◌}
+use mathlib.Core.List.{List, [], ◌∷◌, ◌++◌}
 use native.Mathlib.Decide.{dec_lt}
 use native.Mathlib.Omega.{arith}
-use lib.ListN.{length, get_or, take, get_or-eq_default}
+use lib.ListN.{length, get_or, take, drop, get_or-eq_default}
 use lib.Seq.{ext_get_or, get_or-take, length-take-le}
 use Rattle.table.specs.Table.{Command}
+use Rattle.fields.specs.Lists.{tabulate}
 use Rattle.fields.proofs.Lists.{length_tabulate, get_d_tabulate}
 use Rattle.creators.specs.Kinds.{padded, beside, built}
 
 length_padded : (image : List ℕ) → length (padded image) ≡ 6
 unfolding padded
 length_padded image = length_tabulate 6 (λ (k : ℕ). get_or image k 0)
+
+-- six bytes are room for an image: behind it are what is left of the six zeros
+pub in_room : (n : ℕ) (s : List ℕ) → length s ≡ n → n ≤ 6 → s ++ drop n (0 ∷ 0 ∷ 0 ∷ 0 ∷ 0 ∷ 0 ∷ []) ≡ padded s
+unfolding padded tabulate
+in_room n s e h = let here = by s (omega (arith, e, h)) in rw (sym e) here
+  where
+    by : (s : List ℕ) → length s ≤ 6 → s ++ drop (length s) (0 ∷ 0 ∷ 0 ∷ 0 ∷ 0 ∷ 0 ∷ []) ≡ padded s
+    by [] h = refl
+    by (a ∷ []) h = refl
+    by (a ∷ b ∷ []) h = refl
+    by (a ∷ b ∷ c ∷ []) h = refl
+    by (a ∷ b ∷ c ∷ d ∷ []) h = refl
+    by (a ∷ b ∷ c ∷ d ∷ e ∷ []) h = refl
+    by (a ∷ b ∷ c ∷ d ∷ e ∷ f ∷ []) h = refl
+    by (a ∷ b ∷ c ∷ d ∷ e ∷ f ∷ g ∷ s) h = absurd (omega (arith, h))
 
 -- each byte is the image's, and 0 past its end
 pub padded_reads : (image : List ℕ) (k : ℕ) → length image ≤ 6 → get_or (padded image) k 0 ≡ get_or image k 0

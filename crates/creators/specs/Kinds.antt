@@ -1,8 +1,7 @@
 -- The two kinds of creators (RULES: H6): the command of each kind, and the image beside it.
 use Rattle.std.specs.Prelude.{ℕ, ◌+◌, List, get_or}
 use Rattle.creators.specs.declared.kinds.Image.{Image}
-use Rattle.creators.specs.declared.kinds.UplinkMacCommandCreator.{UplinkMacCommandCreator}
-use Rattle.creators.specs.declared.kinds.DownlinkMacCommandCreator.{DownlinkMacCommandCreator}
+use Rattle.creators.specs.declared.kinds.MacCommandCreator.{MacCommandCreator}
 use Rattle.creators.specs.declared.kinds.UplinkKind.{UplinkKind}
 use Rattle.creators.specs.declared.kinds.UplinkKind.TheVariants as Up
 use Rattle.creators.specs.declared.kinds.DownlinkKind.{DownlinkKind}
@@ -50,11 +49,15 @@ built c = (1 + c.0.size, c.1)
 
 -- ---- what the code's values tell
 
-abbrev pub told_uplink : UplinkMacCommandCreator → Command × List ℕ
-told_uplink c = (uplink_command c.kind, c.image)
+-- of one direction, by what its kinds are in the table
+abbrev pub told_creator : {K : Type 0} → (K → Command) → MacCommandCreator K → Command × List ℕ
+told_creator command c = (command c.kind, c.image)
 
-abbrev pub told_downlink : DownlinkMacCommandCreator → Command × List ℕ
-told_downlink c = (downlink_command c.kind, c.image)
+abbrev pub told_uplink : MacCommandCreator UplinkKind → Command × List ℕ
+told_uplink c = told_creator uplink_command c
+
+abbrev pub told_downlink : MacCommandCreator DownlinkKind → Command × List ℕ
+told_downlink c = told_creator downlink_command c
 
 abbrev pub told_image : Image → ℕ × List ℕ
 told_image i = (i.len, i.bytes)

@@ -1,3 +1,4 @@
+pub mod Apart
 pub mod Image
 pub mod Kinds
 pub mod Setters

@@ -1,72 +1,37 @@
-ghost use Rattle.std.specs.Prelude.{true, ◌≡◌, ◌<◌, length};
+ghost use Rattle.std.proofs.Common.{rules};
+ghost use Rattle.std.specs.Prelude.{◌≡◌};
 ghost use Rattle.table.specs.Table.{named};
 ghost use Rattle.table.specs.Told.{told_verdict};
 ghost use Rattle.fields.specs.Places.{dev_status_ans_battery};
-ghost use Rattle.creators.specs.Image.{new_of, image_length, default_of, put_at};
-ghost use Rattle.creators.specs.Setters.{margin_at, is_margin, six_bits};
+ghost use Rattle.creators.specs.Image.{new_of, default_of, put_at};
+ghost use Rattle.creators.specs.Setters.{margin_at};
 
-use crate::engine::octet;
-use table::{Refusal, Verdict};
+use crate::creator::Creator;
+use crate::kinds::{DownlinkKind, UplinkKind};
+use table::Refusal;
 
-// A margin as six bits: those below 0 from 32 on.
-fn six_bits(margin: i8) -> u8
-    requires { is_margin margin ≡ true }
-    ensures { result ≡ six_bits margin }
-{
-    if margin < 0 {
-        (margin + 64) as u8
-    } else {
-        margin as u8
-    }
-}
-
-fn margin_in(image: &mut [u8], margin: i8) -> Verdict
-    requires { 2 < length image.old }
-    ensures { (told_verdict result, image.new) ≡ margin_at image.old margin }
-{
-    if margin < -32 {
-        return Verdict::Refused(Refusal::MarginOutOfRange);
-    }
-    if 31 < margin {
-        return Verdict::Refused(Refusal::MarginOutOfRange);
-    }
-    octet(image, 1, six_bits(margin));
-    Verdict::Accepted
-}
-
-#[derive(Clone, Copy)]
+#[derive(Clone, Copy, Default)]
 pub struct DevStatusReqCreator {}
 
-impl DevStatusReqCreator {
-    pub fn new() -> DevStatusReqCreator
-        ensures { result ≡ record {} }
-    {
+impl Creator<1> for DevStatusReqCreator {
+    type Kind = DownlinkKind;
+
+    ghost command = { named "DevStatusReq" };
+
+    ghost image = { λ _. new_of (named "DevStatusReq") };
+
+    ghost short = { Prim.search rules };
+
+    fn new() -> Self {
         DevStatusReqCreator {}
     }
 
-    pub fn default() -> DevStatusReqCreator
-        ensures { result ≡ record {} }
-    {
-        DevStatusReqCreator {}
-    }
-
-    pub fn build(self) -> [u8; 1]
-        ensures { result ≡ new_of (named "DevStatusReq") }
-    {
+    fn build(self) -> [u8; 1] {
         [0x06]
     }
 
-    pub fn cid(self) -> u8
-        ensures { result ≡ (named "DevStatusReq").cid }
-    {
-        0x06
-    }
-
-    // The image's length.
-    pub fn len(self) -> usize
-        ensures { result ≡ image_length (named "DevStatusReq") }
-    {
-        1
+    fn kind(self) -> DownlinkKind {
+        DownlinkKind::DevStatusReq
     }
 }
 
@@ -75,64 +40,57 @@ pub struct DevStatusAnsCreator {
     pub(crate) data: [u8; 3],
 }
 
-// The creator, and whether the setter was accepted. A refused setter hands the creator back unchanged (RULES: F2).
-#[derive(Clone, Copy)]
-pub struct DevStatusAnsCreatorAnswer {
-    pub verdict: Verdict,
-    pub creator: DevStatusAnsCreator,
+impl Default for DevStatusAnsCreator {
+    ghost is_default = { λ r. r.«data» ≡ default_of (named "DevStatusAns") };
+
+    // Not filled in: even the CID is 0.
+    fn default() -> Self {
+        DevStatusAnsCreator { data: [0; 3] }
+    }
 }
 
-impl DevStatusAnsCreator {
-    pub fn new() -> DevStatusAnsCreator
-        ensures { result.«data» ≡ new_of (named "DevStatusAns") }
-    {
+impl Creator<3> for DevStatusAnsCreator {
+    type Kind = UplinkKind;
+
+    ghost command = { named "DevStatusAns" };
+
+    ghost image = { λ c. c.«data» };
+
+    ghost short = { Prim.search rules };
+
+    fn new() -> Self {
         DevStatusAnsCreator { data: [0x06, 0, 0] }
     }
 
-    // Not filled in: even the CID is 0.
-    pub fn default() -> DevStatusAnsCreator
-        ensures { result.«data» ≡ default_of (named "DevStatusAns") }
-    {
-        DevStatusAnsCreator { data: [0; 3] }
-    }
-
-    pub fn build(self) -> [u8; 3]
-        ensures { result ≡ self.«data» }
-    {
+    fn build(self) -> [u8; 3] {
         self.data
     }
 
-    pub fn cid(self) -> u8
-        ensures { result ≡ (named "DevStatusAns").cid }
-    {
-        0x06
+    fn kind(self) -> UplinkKind {
+        UplinkKind::DevStatusAns
     }
+}
 
-    // The image's length.
-    pub fn len(self) -> usize
-        ensures { result ≡ image_length (named "DevStatusAns") }
-    {
-        3
-    }
-
+#[tactic(auto, unfolding(crate::specs::Image::put_at))]
+impl DevStatusAnsCreator {
     // The battery level: 0 for an external source, 1 to 254 from the lowest to the highest, 255 where it could not be measured.
-    pub fn set_battery(self, battery: u8) -> DevStatusAnsCreator
+    pub fn set_battery(mut self, battery: u8) -> Self
         ensures { result.«data» ≡ put_at dev_status_ans_battery self.«data» battery }
     {
-        let mut data = self.data;
-        octet(&mut data, 0, battery);
-        DevStatusAnsCreator { data }
+        self.data[1] = battery;
+        self
     }
 
-    // The margin, -32 to 31.
-    pub fn set_margin(self, margin: i8) -> DevStatusAnsCreatorAnswer
-        ensures { (told_verdict result.verdict, result.creator.«data») ≡ margin_at self.«data» margin }
+    // The margin, -32 to 31. A refusal leaves the creator as it was (RULES: F2).
+    #[tactic(auto, using(crate::proofs::Margin::low_six), unfolding(crate::specs::Image::put_at, crate::specs::Setters::margin_at, crate::specs::Setters::is_margin, crate::specs::Setters::six_bits))]
+    pub fn set_margin(&mut self, margin: i8) -> Result<(), Refusal>
+        ensures { (told_verdict result, self.new.«data») ≡ margin_at self.old.«data» margin }
     {
-        let mut data = self.data;
-        let verdict = margin_in(&mut data, margin);
-        DevStatusAnsCreatorAnswer {
-            verdict,
-            creator: DevStatusAnsCreator { data },
+        if margin < -32 || 31 < margin {
+            return Err(Refusal::MarginOutOfRange);
         }
+        // Its low six bits, in two's complement
+        self.data[2] = margin.cast_unsigned() % 64;
+        Ok(())
     }
 }

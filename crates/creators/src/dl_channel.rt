@@ -1,11 +1,14 @@
+ghost use Rattle.std.proofs.Common.{rules};
 ghost use Rattle.std.specs.Prelude.{◌≡◌};
 ghost use Rattle.bits.specs.Bits.{bit_of};
 ghost use Rattle.table.specs.Table.{named};
 ghost use Rattle.fields.specs.Frequency.{bytes_of};
 ghost use Rattle.fields.specs.Places.{dl_channel_req_channel_index, dl_channel_req_frequency, dl_channel_ans_channel_freq_ack, dl_channel_ans_uplink_freq_ack};
-ghost use Rattle.creators.specs.Image.{new_of, image_length, default_of, put_at, put_bytes};
+ghost use Rattle.creators.specs.Image.{default_of, put_at, put_bytes};
 
-use crate::engine::{flag, frequency_at, octet};
+use crate::creator::Creator;
+use crate::engine::flag;
+use crate::kinds::{DownlinkKind, UplinkKind};
 use fields::Frequency;
 
 #[derive(Clone, Copy)]
@@ -13,56 +16,54 @@ pub struct DlChannelReqCreator {
     pub(crate) data: [u8; 5],
 }
 
-impl DlChannelReqCreator {
-    pub fn new() -> DlChannelReqCreator
-        ensures { result.«data» ≡ new_of (named "DlChannelReq") }
-    {
+impl Default for DlChannelReqCreator {
+    ghost is_default = { λ r. r.«data» ≡ default_of (named "DlChannelReq") };
+
+    // Not filled in: even the CID is 0.
+    fn default() -> Self {
+        DlChannelReqCreator { data: [0; 5] }
+    }
+}
+
+impl Creator<5> for DlChannelReqCreator {
+    type Kind = DownlinkKind;
+
+    ghost command = { named "DlChannelReq" };
+
+    ghost image = { λ c. c.«data» };
+
+    ghost short = { Prim.search rules };
+
+    fn new() -> Self {
         DlChannelReqCreator {
             data: [0x0A, 0, 0, 0, 0],
         }
     }
 
-    // Not filled in: even the CID is 0.
-    pub fn default() -> DlChannelReqCreator
-        ensures { result.«data» ≡ default_of (named "DlChannelReq") }
-    {
-        DlChannelReqCreator { data: [0; 5] }
-    }
-
-    pub fn build(self) -> [u8; 5]
-        ensures { result ≡ self.«data» }
-    {
+    fn build(self) -> [u8; 5] {
         self.data
     }
 
-    pub fn cid(self) -> u8
-        ensures { result ≡ (named "DlChannelReq").cid }
-    {
-        0x0A
+    fn kind(self) -> DownlinkKind {
+        DownlinkKind::DlChannelReq
     }
+}
 
-    // The image's length.
-    pub fn len(self) -> usize
-        ensures { result ≡ image_length (named "DlChannelReq") }
-    {
-        5
-    }
-
+#[tactic(auto, unfolding(crate::specs::Image::put_at, crate::specs::Image::put_bytes))]
+impl DlChannelReqCreator {
     // The index of the channel whose downlink frequency is set.
-    pub fn set_channel_index(self, index: u8) -> DlChannelReqCreator
+    pub fn set_channel_index(mut self, index: u8) -> Self
         ensures { result.«data» ≡ put_at dl_channel_req_channel_index self.«data» index }
     {
-        let mut data = self.data;
-        octet(&mut data, 0, index);
-        DlChannelReqCreator { data }
+        self.data[1] = index;
+        self
     }
 
-    pub fn set_frequency(self, frequency: Frequency) -> DlChannelReqCreator
+    pub fn set_frequency(mut self, frequency: Frequency) -> Self
         ensures { result.«data» ≡ put_bytes dl_channel_req_frequency self.«data» (bytes_of frequency) }
     {
-        let mut data = self.data;
-        frequency_at(&mut data, 1, frequency);
-        DlChannelReqCreator { data }
+        self.data[2..5].copy_from_slice(&frequency.as_ref());
+        self
     }
 }
 
@@ -71,54 +72,52 @@ pub struct DlChannelAnsCreator {
     pub(crate) data: [u8; 2],
 }
 
-impl DlChannelAnsCreator {
-    pub fn new() -> DlChannelAnsCreator
-        ensures { result.«data» ≡ new_of (named "DlChannelAns") }
-    {
+impl Default for DlChannelAnsCreator {
+    ghost is_default = { λ r. r.«data» ≡ default_of (named "DlChannelAns") };
+
+    // Not filled in: even the CID is 0.
+    fn default() -> Self {
+        DlChannelAnsCreator { data: [0; 2] }
+    }
+}
+
+impl Creator<2> for DlChannelAnsCreator {
+    type Kind = UplinkKind;
+
+    ghost command = { named "DlChannelAns" };
+
+    ghost image = { λ c. c.«data» };
+
+    ghost short = { Prim.search rules };
+
+    fn new() -> Self {
         DlChannelAnsCreator { data: [0x0A, 0] }
     }
 
-    // Not filled in: even the CID is 0.
-    pub fn default() -> DlChannelAnsCreator
-        ensures { result.«data» ≡ default_of (named "DlChannelAns") }
-    {
-        DlChannelAnsCreator { data: [0; 2] }
-    }
-
-    pub fn build(self) -> [u8; 2]
-        ensures { result ≡ self.«data» }
-    {
+    fn build(self) -> [u8; 2] {
         self.data
     }
 
-    pub fn cid(self) -> u8
-        ensures { result ≡ (named "DlChannelAns").cid }
-    {
-        0x0A
+    fn kind(self) -> UplinkKind {
+        UplinkKind::DlChannelAns
     }
+}
 
-    // The image's length.
-    pub fn len(self) -> usize
-        ensures { result ≡ image_length (named "DlChannelAns") }
-    {
-        2
-    }
-
+#[tactic(auto, unfolding(crate::specs::Image::put_at))]
+impl DlChannelAnsCreator {
     // Whether the channel frequency was acceptable.
-    pub fn set_channel_frequency_ack(self, ack: bool) -> DlChannelAnsCreator
+    pub fn set_channel_frequency_ack(mut self, ack: bool) -> Self
         ensures { result.«data» ≡ put_at dl_channel_ans_channel_freq_ack self.«data» (bit_of ack) }
     {
-        let mut data = self.data;
-        flag(&mut data, 0, 0, ack);
-        DlChannelAnsCreator { data }
+        self.data[1] = flag(self.data[1], 0, ack);
+        self
     }
 
     // Whether the channel has an uplink frequency.
-    pub fn set_uplink_frequency_exists_ack(self, ack: bool) -> DlChannelAnsCreator
+    pub fn set_uplink_frequency_exists_ack(mut self, ack: bool) -> Self
         ensures { result.«data» ≡ put_at dl_channel_ans_uplink_freq_ack self.«data» (bit_of ack) }
     {
-        let mut data = self.data;
-        flag(&mut data, 0, 1, ack);
-        DlChannelAnsCreator { data }
+        self.data[1] = flag(self.data[1], 1, ack);
+        self
     }
 }

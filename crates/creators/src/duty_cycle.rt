@@ -1,90 +1,80 @@
+ghost use Rattle.std.proofs.Common.{rules};
 ghost use Rattle.std.specs.Prelude.{◌≡◌};
 ghost use Rattle.table.specs.Table.{named};
 ghost use Rattle.fields.specs.Places.{duty_cycle_req_whole};
-ghost use Rattle.creators.specs.Image.{new_of, image_length, default_of, put_at};
+ghost use Rattle.creators.specs.Image.{new_of, default_of, put_at};
 
-use crate::engine::octet;
+use crate::creator::Creator;
+use crate::kinds::{DownlinkKind, UplinkKind};
 
 #[derive(Clone, Copy)]
 pub struct DutyCycleReqCreator {
     pub(crate) data: [u8; 2],
 }
 
-impl DutyCycleReqCreator {
-    pub fn new() -> DutyCycleReqCreator
-        ensures { result.«data» ≡ new_of (named "DutyCycleReq") }
-    {
-        DutyCycleReqCreator { data: [0x04, 0] }
-    }
+impl Default for DutyCycleReqCreator {
+    ghost is_default = { λ r. r.«data» ≡ default_of (named "DutyCycleReq") };
 
     // Not filled in: even the CID is 0.
-    pub fn default() -> DutyCycleReqCreator
-        ensures { result.«data» ≡ default_of (named "DutyCycleReq") }
-    {
+    fn default() -> Self {
         DutyCycleReqCreator { data: [0; 2] }
-    }
-
-    pub fn build(self) -> [u8; 2]
-        ensures { result ≡ self.«data» }
-    {
-        self.data
-    }
-
-    pub fn cid(self) -> u8
-        ensures { result ≡ (named "DutyCycleReq").cid }
-    {
-        0x04
-    }
-
-    // The image's length.
-    pub fn len(self) -> usize
-        ensures { result ≡ image_length (named "DutyCycleReq") }
-    {
-        2
-    }
-
-    // The exponent n of the aggregated duty cycle 1 / 2^n. Every byte is taken, and written whole.
-    pub fn set_max_duty_cycle(self, max_duty_cycle: u8) -> DutyCycleReqCreator
-        ensures { result.«data» ≡ put_at duty_cycle_req_whole self.«data» max_duty_cycle }
-    {
-        let mut data = self.data;
-        octet(&mut data, 0, max_duty_cycle);
-        DutyCycleReqCreator { data }
     }
 }
 
-#[derive(Clone, Copy)]
+impl Creator<2> for DutyCycleReqCreator {
+    type Kind = DownlinkKind;
+
+    ghost command = { named "DutyCycleReq" };
+
+    ghost image = { λ c. c.«data» };
+
+    ghost short = { Prim.search rules };
+
+    fn new() -> Self {
+        DutyCycleReqCreator { data: [0x04, 0] }
+    }
+
+    fn build(self) -> [u8; 2] {
+        self.data
+    }
+
+    fn kind(self) -> DownlinkKind {
+        DownlinkKind::DutyCycleReq
+    }
+}
+
+#[tactic(auto, unfolding(crate::specs::Image::put_at))]
+impl DutyCycleReqCreator {
+    // The exponent n of the aggregated duty cycle 1 / 2^n. Every byte is taken, and written whole.
+    pub fn set_max_duty_cycle(mut self, max_duty_cycle: u8) -> Self
+        ensures { result.«data» ≡ put_at duty_cycle_req_whole self.«data» max_duty_cycle }
+    {
+        self.data[1] = max_duty_cycle;
+        self
+    }
+}
+
+#[derive(Clone, Copy, Default)]
 pub struct DutyCycleAnsCreator {}
 
-impl DutyCycleAnsCreator {
-    pub fn new() -> DutyCycleAnsCreator
-        ensures { result ≡ record {} }
-    {
+impl Creator<1> for DutyCycleAnsCreator {
+    type Kind = UplinkKind;
+
+    ghost command = { named "DutyCycleAns" };
+
+    ghost image = { λ _. new_of (named "DutyCycleAns") };
+
+    ghost short = { Prim.search rules };
+
+    fn new() -> Self {
         DutyCycleAnsCreator {}
     }
 
-    pub fn default() -> DutyCycleAnsCreator
-        ensures { result ≡ record {} }
-    {
-        DutyCycleAnsCreator {}
-    }
-
-    pub fn build(self) -> [u8; 1]
-        ensures { result ≡ new_of (named "DutyCycleAns") }
-    {
+    fn build(self) -> [u8; 1] {
         [0x04]
     }
 
-    pub fn cid(self) -> u8
-        ensures { result ≡ (named "DutyCycleAns").cid }
-    {
-        0x04
-    }
-
-    // The image's length.
-    pub fn len(self) -> usize
-        ensures { result ≡ image_length (named "DutyCycleAns") }
-    {
-        1
+    fn kind(self) -> UplinkKind {
+        UplinkKind::DutyCycleAns
     }
 }

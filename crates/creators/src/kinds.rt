@@ -1,59 +1,37 @@
-// The two kinds of creators: which command it is, beside its image. The Rust has an enum of creators; here no variant holds an array.
-ghost use Rattle.std.specs.Prelude.{◌≡◌, ◌+◌, get_or};
-ghost use Rattle.table.specs.Table.{named};
-ghost use Rattle.creators.specs.Image.{new_of};
+// The two kinds of creators: which command it is, beside its image. The Rust has an enum of creators for each direction, and so ten arms in each method of each.
+ghost use Rattle.std.specs.Prelude.{◌≡◌, ◌+◌};
+ghost use Rattle.table.specs.Table.{Command};
+ghost use Rattle.creators.specs.Apart.{uplink_kinds_apart, downlink_kinds_apart};
 ghost use Rattle.creators.specs.Kinds.{
   uplink_command,
   downlink_command,
-  padded,
   beside,
   built,
-  told_uplink,
-  told_downlink,
+  told_creator,
   told_image,
 };
 
-use crate::dev_status::{DevStatusAnsCreator, DevStatusReqCreator};
-use crate::device_time::{DeviceTimeAnsCreator, DeviceTimeReqCreator};
-use crate::dl_channel::{DlChannelAnsCreator, DlChannelReqCreator};
-use crate::duty_cycle::{DutyCycleAnsCreator, DutyCycleReqCreator};
-use crate::link_adr::{LinkADRAnsCreator, LinkADRReqCreator};
-use crate::link_check::{LinkCheckAnsCreator, LinkCheckReqCreator};
-use crate::new_channel::{NewChannelAnsCreator, NewChannelReqCreator};
-use crate::rx_param_setup::{RXParamSetupAnsCreator, RXParamSetupReqCreator};
-use crate::rx_timing_setup::{RXTimingSetupAnsCreator, RXTimingSetupReqCreator};
-use crate::tx_param_setup::{TXParamSetupAnsCreator, TXParamSetupReqCreator};
-
-// An image as it is sent: the first len bytes. Those after them do not count.
-#[derive(Clone, Copy)]
-pub struct Image {
-    pub len: usize,
-    pub bytes: [u8; 6],
-}
-
-// The byte at a place of the image, and 0 past its end.
-fn byte_at(image: &[u8], i: usize) -> u8
-    ensures { result ≡ get_or image.now i 0 }
-{
-    if i < image.len() { image[i] } else { 0 }
-}
-
-fn padded(image: &[u8]) -> [u8; 6]
-    ensures { result ≡ padded image.now }
-{
-    [
-        byte_at(image, 0),
-        byte_at(image, 1),
-        byte_at(image, 2),
-        byte_at(image, 3),
-        byte_at(image, 4),
-        byte_at(image, 5),
-    ]
-}
+use crate::creator::Creator;
 
 // What the table has of a command: its CID, and the bytes of its payload.
 #[derive(Clone, Copy)]
-struct Entry(u8, u8);
+pub struct Entry {
+    pub cid: u8,
+    pub size: u8,
+}
+
+// The commands of one direction.
+pub trait CommandKind: Copy {
+    ghost command: { Self → Command };
+
+    // No two are one command
+    ghost apart: { (k m : Self) → command k ≡ command m → k ≡ m };
+
+    // By number, once more beside the table: that they are the table's is proved.
+    fn entry(self) -> Entry
+        ensures cid { result.cid ≡ (command self).cid }
+        ensures size { result.size ≡ (command self).size };
+}
 
 // The commands that are sent up.
 #[derive(Clone, Copy)]
@@ -70,141 +48,24 @@ pub enum UplinkKind {
     DeviceTimeReq,
 }
 
-impl UplinkKind {
-    fn entry(self) -> Entry
-        ensures { (result.0 ≡ (uplink_command self).cid) × (result.1 ≡ (uplink_command self).size) }
-    {
+impl CommandKind for UplinkKind {
+    ghost command = { uplink_command };
+
+    ghost apart = { uplink_kinds_apart };
+
+    fn entry(self) -> Entry {
         match self {
-            UplinkKind::LinkCheckReq => Entry(0x02, 0),
-            UplinkKind::LinkADRAns => Entry(0x03, 1),
-            UplinkKind::DutyCycleAns => Entry(0x04, 0),
-            UplinkKind::RXParamSetupAns => Entry(0x05, 1),
-            UplinkKind::DevStatusAns => Entry(0x06, 2),
-            UplinkKind::NewChannelAns => Entry(0x07, 1),
-            UplinkKind::RXTimingSetupAns => Entry(0x08, 0),
-            UplinkKind::TXParamSetupAns => Entry(0x09, 0),
-            UplinkKind::DlChannelAns => Entry(0x0A, 1),
-            UplinkKind::DeviceTimeReq => Entry(0x0D, 0),
+            UplinkKind::LinkCheckReq => Entry { cid: 0x02, size: 0 },
+            UplinkKind::LinkADRAns => Entry { cid: 0x03, size: 1 },
+            UplinkKind::DutyCycleAns => Entry { cid: 0x04, size: 0 },
+            UplinkKind::RXParamSetupAns => Entry { cid: 0x05, size: 1 },
+            UplinkKind::DevStatusAns => Entry { cid: 0x06, size: 2 },
+            UplinkKind::NewChannelAns => Entry { cid: 0x07, size: 1 },
+            UplinkKind::RXTimingSetupAns => Entry { cid: 0x08, size: 0 },
+            UplinkKind::TXParamSetupAns => Entry { cid: 0x09, size: 0 },
+            UplinkKind::DlChannelAns => Entry { cid: 0x0A, size: 1 },
+            UplinkKind::DeviceTimeReq => Entry { cid: 0x0D, size: 0 },
         }
-    }
-}
-
-#[derive(Clone, Copy)]
-pub struct UplinkMacCommandCreator {
-    kind: UplinkKind,
-    image: [u8; 6],
-}
-
-fn uplink(kind: UplinkKind, image: &[u8]) -> UplinkMacCommandCreator
-    ensures { told_uplink result ≡ beside (uplink_command kind) image.now }
-{
-    let image = padded(image);
-    UplinkMacCommandCreator { kind, image }
-}
-
-impl UplinkMacCommandCreator {
-    pub fn from_link_check_req(_creator: LinkCheckReqCreator) -> UplinkMacCommandCreator
-        ensures { told_uplink result ≡ beside (named "LinkCheckReq") (new_of (named "LinkCheckReq")) }
-    {
-        let data = [0x02];
-        uplink(UplinkKind::LinkCheckReq, &data)
-    }
-
-    pub fn from_link_adr_ans(creator: LinkADRAnsCreator) -> UplinkMacCommandCreator
-        ensures { told_uplink result ≡ beside (named "LinkADRAns") creator.«data» }
-    {
-        let data = creator.data;
-        uplink(UplinkKind::LinkADRAns, &data)
-    }
-
-    pub fn from_duty_cycle_ans(_creator: DutyCycleAnsCreator) -> UplinkMacCommandCreator
-        ensures { told_uplink result ≡ beside (named "DutyCycleAns") (new_of (named "DutyCycleAns")) }
-    {
-        let data = [0x04];
-        uplink(UplinkKind::DutyCycleAns, &data)
-    }
-
-    pub fn from_rx_param_setup_ans(creator: RXParamSetupAnsCreator) -> UplinkMacCommandCreator
-        ensures { told_uplink result ≡ beside (named "RXParamSetupAns") creator.«data» }
-    {
-        let data = creator.data;
-        uplink(UplinkKind::RXParamSetupAns, &data)
-    }
-
-    pub fn from_dev_status_ans(creator: DevStatusAnsCreator) -> UplinkMacCommandCreator
-        ensures { told_uplink result ≡ beside (named "DevStatusAns") creator.«data» }
-    {
-        let data = creator.data;
-        uplink(UplinkKind::DevStatusAns, &data)
-    }
-
-    pub fn from_new_channel_ans(creator: NewChannelAnsCreator) -> UplinkMacCommandCreator
-        ensures { told_uplink result ≡ beside (named "NewChannelAns") creator.«data» }
-    {
-        let data = creator.data;
-        uplink(UplinkKind::NewChannelAns, &data)
-    }
-
-    pub fn from_rx_timing_setup_ans(_creator: RXTimingSetupAnsCreator) -> UplinkMacCommandCreator
-        ensures { told_uplink result ≡ beside (named "RXTimingSetupAns") (new_of (named "RXTimingSetupAns")) }
-    {
-        let data = [0x08];
-        uplink(UplinkKind::RXTimingSetupAns, &data)
-    }
-
-    pub fn from_tx_param_setup_ans(_creator: TXParamSetupAnsCreator) -> UplinkMacCommandCreator
-        ensures { told_uplink result ≡ beside (named "TXParamSetupAns") (new_of (named "TXParamSetupAns")) }
-    {
-        let data = [0x09];
-        uplink(UplinkKind::TXParamSetupAns, &data)
-    }
-
-    pub fn from_dl_channel_ans(creator: DlChannelAnsCreator) -> UplinkMacCommandCreator
-        ensures { told_uplink result ≡ beside (named "DlChannelAns") creator.«data» }
-    {
-        let data = creator.data;
-        uplink(UplinkKind::DlChannelAns, &data)
-    }
-
-    pub fn from_device_time_req(_creator: DeviceTimeReqCreator) -> UplinkMacCommandCreator
-        ensures { told_uplink result ≡ beside (named "DeviceTimeReq") (new_of (named "DeviceTimeReq")) }
-    {
-        let data = [0x0D];
-        uplink(UplinkKind::DeviceTimeReq, &data)
-    }
-
-    // Which command it is.
-    pub fn kind(self) -> UplinkKind
-        ensures { uplink_command result ≡ (told_uplink self).0 }
-    {
-        let kind = self.kind;
-        kind
-    }
-
-    // The CID of the kind, whatever the image's first byte.
-    pub fn cid(self) -> u8
-        ensures { result ≡ (told_uplink self).0.cid }
-    {
-        let kind = self.kind;
-        let entry = kind.entry();
-        entry.0
-    }
-
-    // The image's length.
-    pub fn len(self) -> usize
-        ensures { result ≡ 1 + (told_uplink self).0.size }
-    {
-        let kind = self.kind;
-        let entry = kind.entry();
-        1 + (entry.1 as usize)
-    }
-
-    pub fn build(self) -> Image
-        ensures { told_image result ≡ built (told_uplink self) }
-    {
-        let len = self.len();
-        let bytes = self.image;
-        Image { len, bytes }
     }
 }
 
@@ -223,140 +84,87 @@ pub enum DownlinkKind {
     DeviceTimeAns,
 }
 
-impl DownlinkKind {
-    fn entry(self) -> Entry
-        ensures { (result.0 ≡ (downlink_command self).cid) × (result.1 ≡ (downlink_command self).size) }
-    {
+impl CommandKind for DownlinkKind {
+    ghost command = { downlink_command };
+
+    ghost apart = { downlink_kinds_apart };
+
+    fn entry(self) -> Entry {
         match self {
-            DownlinkKind::LinkCheckAns => Entry(0x02, 2),
-            DownlinkKind::LinkADRReq => Entry(0x03, 4),
-            DownlinkKind::DutyCycleReq => Entry(0x04, 1),
-            DownlinkKind::RXParamSetupReq => Entry(0x05, 4),
-            DownlinkKind::DevStatusReq => Entry(0x06, 0),
-            DownlinkKind::NewChannelReq => Entry(0x07, 5),
-            DownlinkKind::RXTimingSetupReq => Entry(0x08, 1),
-            DownlinkKind::TXParamSetupReq => Entry(0x09, 1),
-            DownlinkKind::DlChannelReq => Entry(0x0A, 4),
-            DownlinkKind::DeviceTimeAns => Entry(0x0D, 5),
+            DownlinkKind::LinkCheckAns => Entry { cid: 0x02, size: 2 },
+            DownlinkKind::LinkADRReq => Entry { cid: 0x03, size: 4 },
+            DownlinkKind::DutyCycleReq => Entry { cid: 0x04, size: 1 },
+            DownlinkKind::RXParamSetupReq => Entry { cid: 0x05, size: 4 },
+            DownlinkKind::DevStatusReq => Entry { cid: 0x06, size: 0 },
+            DownlinkKind::NewChannelReq => Entry { cid: 0x07, size: 5 },
+            DownlinkKind::RXTimingSetupReq => Entry { cid: 0x08, size: 1 },
+            DownlinkKind::TXParamSetupReq => Entry { cid: 0x09, size: 1 },
+            DownlinkKind::DlChannelReq => Entry { cid: 0x0A, size: 4 },
+            DownlinkKind::DeviceTimeAns => Entry { cid: 0x0D, size: 5 },
         }
     }
 }
 
+// An image as it is sent: the first len bytes. Those after them do not count. The number stands beside the bytes, and no Vec holds them: nothing here
+// takes memory from a heap (C links it).
 #[derive(Clone, Copy)]
-pub struct DownlinkMacCommandCreator {
-    kind: DownlinkKind,
+pub struct Image {
+    pub len: usize,
+    pub bytes: [u8; 6],
+}
+
+// A creator of any command of one direction.
+#[derive(Clone, Copy)]
+pub struct MacCommandCreator<K> {
+    kind: K,
     image: [u8; 6],
 }
 
-fn downlink(kind: DownlinkKind, image: &[u8]) -> DownlinkMacCommandCreator
-    ensures { told_downlink result ≡ beside (downlink_command kind) image.now }
-{
-    let image = padded(image);
-    DownlinkMacCommandCreator { kind, image }
-}
+pub type UplinkMacCommandCreator = MacCommandCreator<UplinkKind>;
 
-impl DownlinkMacCommandCreator {
-    pub fn from_link_check_ans(creator: LinkCheckAnsCreator) -> DownlinkMacCommandCreator
-        ensures { told_downlink result ≡ beside (named "LinkCheckAns") creator.«data» }
-    {
-        let data = creator.data;
-        downlink(DownlinkKind::LinkCheckAns, &data)
-    }
+pub type DownlinkMacCommandCreator = MacCommandCreator<DownlinkKind>;
 
-    pub fn from_link_adr_req(creator: LinkADRReqCreator) -> DownlinkMacCommandCreator
-        ensures { told_downlink result ≡ beside (named "LinkADRReq") creator.«data» }
+impl<K: CommandKind> MacCommandCreator<K> {
+    // The creator's command, with its image. (`From` for every creator would overlap the library's impl for a type itself.)
+    #[tactic(auto, using(crate::proofs::Padded::in_room))]
+    pub fn of<const N: usize, C: Creator<N, Kind = K>>(creator: C) -> Self
+        ensures { told_creator K.command result ≡ beside C.command (C.image creator) }
     {
-        let data = creator.data;
-        downlink(DownlinkKind::LinkADRReq, &data)
-    }
-
-    pub fn from_duty_cycle_req(creator: DutyCycleReqCreator) -> DownlinkMacCommandCreator
-        ensures { told_downlink result ≡ beside (named "DutyCycleReq") creator.«data» }
-    {
-        let data = creator.data;
-        downlink(DownlinkKind::DutyCycleReq, &data)
-    }
-
-    pub fn from_rx_param_setup_req(creator: RXParamSetupReqCreator) -> DownlinkMacCommandCreator
-        ensures { told_downlink result ≡ beside (named "RXParamSetupReq") creator.«data» }
-    {
-        let data = creator.data;
-        downlink(DownlinkKind::RXParamSetupReq, &data)
-    }
-
-    pub fn from_dev_status_req(_creator: DevStatusReqCreator) -> DownlinkMacCommandCreator
-        ensures { told_downlink result ≡ beside (named "DevStatusReq") (new_of (named "DevStatusReq")) }
-    {
-        let data = [0x06];
-        downlink(DownlinkKind::DevStatusReq, &data)
-    }
-
-    pub fn from_new_channel_req(creator: NewChannelReqCreator) -> DownlinkMacCommandCreator
-        ensures { told_downlink result ≡ beside (named "NewChannelReq") creator.«data» }
-    {
-        let data = creator.data;
-        downlink(DownlinkKind::NewChannelReq, &data)
-    }
-
-    pub fn from_rx_timing_setup_req(creator: RXTimingSetupReqCreator) -> DownlinkMacCommandCreator
-        ensures { told_downlink result ≡ beside (named "RXTimingSetupReq") creator.«data» }
-    {
-        let data = creator.data;
-        downlink(DownlinkKind::RXTimingSetupReq, &data)
-    }
-
-    pub fn from_tx_param_setup_req(creator: TXParamSetupReqCreator) -> DownlinkMacCommandCreator
-        ensures { told_downlink result ≡ beside (named "TXParamSetupReq") creator.«data» }
-    {
-        let data = creator.data;
-        downlink(DownlinkKind::TXParamSetupReq, &data)
-    }
-
-    pub fn from_dl_channel_req(creator: DlChannelReqCreator) -> DownlinkMacCommandCreator
-        ensures { told_downlink result ≡ beside (named "DlChannelReq") creator.«data» }
-    {
-        let data = creator.data;
-        downlink(DownlinkKind::DlChannelReq, &data)
-    }
-
-    pub fn from_device_time_ans(creator: DeviceTimeAnsCreator) -> DownlinkMacCommandCreator
-        ensures { told_downlink result ≡ beside (named "DeviceTimeAns") creator.«data» }
-    {
-        let data = creator.data;
-        downlink(DownlinkKind::DeviceTimeAns, &data)
+        let mut image = [0; 6];
+        image[..N].copy_from_slice(&creator.build());
+        MacCommandCreator {
+            kind: creator.kind(),
+            image,
+        }
     }
 
     // Which command it is.
-    pub fn kind(self) -> DownlinkKind
-        ensures { downlink_command result ≡ (told_downlink self).0 }
+    pub fn kind(self) -> K
+        ensures { result ≡ self.kind }
     {
-        let kind = self.kind;
-        kind
+        self.kind
     }
 
     // The CID of the kind, whatever the image's first byte.
     pub fn cid(self) -> u8
-        ensures { result ≡ (told_downlink self).0.cid }
+        ensures { result ≡ (told_creator K.command self).0.cid }
     {
-        let kind = self.kind;
-        let entry = kind.entry();
-        entry.0
+        self.kind.entry().cid
     }
 
     // The image's length.
     pub fn len(self) -> usize
-        ensures { result ≡ 1 + (told_downlink self).0.size }
+        ensures { result ≡ 1 + (told_creator K.command self).0.size }
     {
-        let kind = self.kind;
-        let entry = kind.entry();
-        1 + (entry.1 as usize)
+        1 + usize::from(self.kind.entry().size)
     }
 
     pub fn build(self) -> Image
-        ensures { told_image result ≡ built (told_downlink self) }
+        ensures { told_image result ≡ built (told_creator K.command self) }
     {
-        let len = self.len();
-        let bytes = self.image;
-        Image { len, bytes }
+        Image {
+            len: self.len(),
+            bytes: self.image,
+        }
     }
 }

@@ -1,6 +1,7 @@
 // The creators: twenty images of CID and payload with their setters, and the two kinds that a list of commands is made of.
 #![tactic(auto)]
 
+pub mod creator;
 pub mod dev_status;
 pub mod device_time;
 pub mod dl_channel;
@@ -14,20 +15,18 @@ pub mod rx_param_setup;
 pub mod rx_timing_setup;
 pub mod tx_param_setup;
 
-pub use dev_status::{DevStatusAnsCreator, DevStatusAnsCreatorAnswer, DevStatusReqCreator};
-pub use device_time::{DeviceTimeAnsCreator, DeviceTimeAnsCreatorAnswer, DeviceTimeReqCreator};
+pub use creator::Creator;
+pub use dev_status::{DevStatusAnsCreator, DevStatusReqCreator};
+pub use device_time::{DeviceTimeAnsCreator, DeviceTimeReqCreator};
 pub use dl_channel::{DlChannelAnsCreator, DlChannelReqCreator};
 pub use duty_cycle::{DutyCycleAnsCreator, DutyCycleReqCreator};
 pub use kinds::{
-    DownlinkKind, DownlinkMacCommandCreator, Image, UplinkKind, UplinkMacCommandCreator,
+    CommandKind, DownlinkKind, DownlinkMacCommandCreator, Entry, Image, MacCommandCreator,
+    UplinkKind, UplinkMacCommandCreator,
 };
-pub use link_adr::{LinkADRAnsCreator, LinkADRReqCreator, LinkADRReqCreatorAnswer};
+pub use link_adr::{LinkADRAnsCreator, LinkADRReqCreator};
 pub use link_check::{LinkCheckAnsCreator, LinkCheckReqCreator};
 pub use new_channel::{NewChannelAnsCreator, NewChannelReqCreator};
 pub use rx_param_setup::{RXParamSetupAnsCreator, RXParamSetupReqCreator};
-pub use rx_timing_setup::{
-    RXTimingSetupAnsCreator, RXTimingSetupReqCreator, RXTimingSetupReqCreatorAnswer,
-};
-pub use tx_param_setup::{
-    TXParamSetupAnsCreator, TXParamSetupReqCreator, TXParamSetupReqCreatorAnswer,
-};
+pub use rx_timing_setup::{RXTimingSetupAnsCreator, RXTimingSetupReqCreator};
+pub use tx_param_setup::{TXParamSetupAnsCreator, TXParamSetupReqCreator};

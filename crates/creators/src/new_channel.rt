@@ -1,83 +1,76 @@
-ghost use Rattle.std.specs.Prelude.{◌≡◌, ◌<◌, length};
+ghost use Rattle.std.proofs.Common.{rules};
+ghost use Rattle.std.specs.Prelude.{◌≡◌};
 ghost use Rattle.bits.specs.Bits.{bit_of};
 ghost use Rattle.table.specs.Table.{named};
 ghost use Rattle.fields.specs.Frequency.{bytes_of};
 ghost use Rattle.fields.specs.Places.{new_channel_req_channel_index, new_channel_req_frequency, new_channel_req_data_rate_range, new_channel_ans_channel_freq_ack, new_channel_ans_data_rate_range_ack};
-ghost use Rattle.creators.specs.Image.{new_of, image_length, default_of, put_at, put_bytes};
+ghost use Rattle.creators.specs.Image.{default_of, put_at, put_bytes};
 
-use crate::engine::{flag, frequency_at, octet};
+use crate::creator::Creator;
+use crate::engine::flag;
+use crate::kinds::{DownlinkKind, UplinkKind};
 use fields::{DataRateRange, Frequency};
-
-fn data_rate_range_in(image: &mut [u8], data_rate_range: DataRateRange)
-    requires { 5 < length image.old }
-    ensures { image.new ≡ put_at new_channel_req_data_rate_range image.old data_rate_range.0 }
-{
-    octet(image, 4, data_rate_range.raw_value());
-}
 
 #[derive(Clone, Copy)]
 pub struct NewChannelReqCreator {
     pub(crate) data: [u8; 6],
 }
 
-impl NewChannelReqCreator {
-    pub fn new() -> NewChannelReqCreator
-        ensures { result.«data» ≡ new_of (named "NewChannelReq") }
-    {
+impl Default for NewChannelReqCreator {
+    ghost is_default = { λ r. r.«data» ≡ default_of (named "NewChannelReq") };
+
+    // Not filled in: even the CID is 0.
+    fn default() -> Self {
+        NewChannelReqCreator { data: [0; 6] }
+    }
+}
+
+impl Creator<6> for NewChannelReqCreator {
+    type Kind = DownlinkKind;
+
+    ghost command = { named "NewChannelReq" };
+
+    ghost image = { λ c. c.«data» };
+
+    ghost short = { Prim.search rules };
+
+    fn new() -> Self {
         NewChannelReqCreator {
             data: [0x07, 0, 0, 0, 0, 0],
         }
     }
 
-    // Not filled in: even the CID is 0.
-    pub fn default() -> NewChannelReqCreator
-        ensures { result.«data» ≡ default_of (named "NewChannelReq") }
-    {
-        NewChannelReqCreator { data: [0; 6] }
-    }
-
-    pub fn build(self) -> [u8; 6]
-        ensures { result ≡ self.«data» }
-    {
+    fn build(self) -> [u8; 6] {
         self.data
     }
 
-    pub fn cid(self) -> u8
-        ensures { result ≡ (named "NewChannelReq").cid }
-    {
-        0x07
+    fn kind(self) -> DownlinkKind {
+        DownlinkKind::NewChannelReq
     }
+}
 
-    // The image's length.
-    pub fn len(self) -> usize
-        ensures { result ≡ image_length (named "NewChannelReq") }
-    {
-        6
-    }
-
+#[tactic(auto, unfolding(crate::specs::Image::put_at, crate::specs::Image::put_bytes))]
+impl NewChannelReqCreator {
     // The index of the channel that is made or changed.
-    pub fn set_channel_index(self, channel_index: u8) -> NewChannelReqCreator
+    pub fn set_channel_index(mut self, channel_index: u8) -> Self
         ensures { result.«data» ≡ put_at new_channel_req_channel_index self.«data» channel_index }
     {
-        let mut data = self.data;
-        octet(&mut data, 0, channel_index);
-        NewChannelReqCreator { data }
+        self.data[1] = channel_index;
+        self
     }
 
-    pub fn set_frequency(self, frequency: Frequency) -> NewChannelReqCreator
+    pub fn set_frequency(mut self, frequency: Frequency) -> Self
         ensures { result.«data» ≡ put_bytes new_channel_req_frequency self.«data» (bytes_of frequency) }
     {
-        let mut data = self.data;
-        frequency_at(&mut data, 1, frequency);
-        NewChannelReqCreator { data }
+        self.data[2..5].copy_from_slice(&frequency.as_ref());
+        self
     }
 
-    pub fn set_data_rate_range(self, data_rate_range: DataRateRange) -> NewChannelReqCreator
+    pub fn set_data_rate_range(mut self, data_rate_range: DataRateRange) -> Self
         ensures { result.«data» ≡ put_at new_channel_req_data_rate_range self.«data» data_rate_range.0 }
     {
-        let mut data = self.data;
-        data_rate_range_in(&mut data, data_rate_range);
-        NewChannelReqCreator { data }
+        self.data[5] = data_rate_range.raw_value();
+        self
     }
 }
 
@@ -86,54 +79,52 @@ pub struct NewChannelAnsCreator {
     pub(crate) data: [u8; 2],
 }
 
-impl NewChannelAnsCreator {
-    pub fn new() -> NewChannelAnsCreator
-        ensures { result.«data» ≡ new_of (named "NewChannelAns") }
-    {
+impl Default for NewChannelAnsCreator {
+    ghost is_default = { λ r. r.«data» ≡ default_of (named "NewChannelAns") };
+
+    // Not filled in: even the CID is 0.
+    fn default() -> Self {
+        NewChannelAnsCreator { data: [0; 2] }
+    }
+}
+
+impl Creator<2> for NewChannelAnsCreator {
+    type Kind = UplinkKind;
+
+    ghost command = { named "NewChannelAns" };
+
+    ghost image = { λ c. c.«data» };
+
+    ghost short = { Prim.search rules };
+
+    fn new() -> Self {
         NewChannelAnsCreator { data: [0x07, 0] }
     }
 
-    // Not filled in: even the CID is 0.
-    pub fn default() -> NewChannelAnsCreator
-        ensures { result.«data» ≡ default_of (named "NewChannelAns") }
-    {
-        NewChannelAnsCreator { data: [0; 2] }
-    }
-
-    pub fn build(self) -> [u8; 2]
-        ensures { result ≡ self.«data» }
-    {
+    fn build(self) -> [u8; 2] {
         self.data
     }
 
-    pub fn cid(self) -> u8
-        ensures { result ≡ (named "NewChannelAns").cid }
-    {
-        0x07
+    fn kind(self) -> UplinkKind {
+        UplinkKind::NewChannelAns
     }
+}
 
-    // The image's length.
-    pub fn len(self) -> usize
-        ensures { result ≡ image_length (named "NewChannelAns") }
-    {
-        2
-    }
-
+#[tactic(auto, unfolding(crate::specs::Image::put_at))]
+impl NewChannelAnsCreator {
     // Whether the channel frequency was acceptable.
-    pub fn set_channel_frequency_ack(self, ack: bool) -> NewChannelAnsCreator
+    pub fn set_channel_frequency_ack(mut self, ack: bool) -> Self
         ensures { result.«data» ≡ put_at new_channel_ans_channel_freq_ack self.«data» (bit_of ack) }
     {
-        let mut data = self.data;
-        flag(&mut data, 0, 0, ack);
-        NewChannelAnsCreator { data }
+        self.data[1] = flag(self.data[1], 0, ack);
+        self
     }
 
     // Whether the data rate range was acceptable.
-    pub fn set_data_rate_range_ack(self, ack: bool) -> NewChannelAnsCreator
+    pub fn set_data_rate_range_ack(mut self, ack: bool) -> Self
         ensures { result.«data» ≡ put_at new_channel_ans_data_rate_range_ack self.«data» (bit_of ack) }
     {
-        let mut data = self.data;
-        flag(&mut data, 0, 1, ack);
-        NewChannelAnsCreator { data }
+        self.data[1] = flag(self.data[1], 1, ack);
+        self
     }
 }

@@ -1,102 +1,83 @@
+ghost use Rattle.std.proofs.Common.{rules};
 ghost use Rattle.std.specs.Prelude.{◌≡◌};
 ghost use Rattle.table.specs.Table.{named};
 ghost use Rattle.table.specs.Told.{told_verdict};
 ghost use Rattle.fields.specs.Places.{rx_timing_setup_req_delay};
-ghost use Rattle.creators.specs.Image.{new_of, image_length, default_of, checked_at};
+ghost use Rattle.creators.specs.Image.{new_of, default_of, checked_at};
 
+use crate::creator::Creator;
 use crate::engine::nibble;
-use table::{Refusal, Verdict};
+use crate::kinds::{DownlinkKind, UplinkKind};
+use table::Refusal;
 
 #[derive(Clone, Copy)]
 pub struct RXTimingSetupReqCreator {
     pub(crate) data: [u8; 2],
 }
 
-// The creator, and whether the setter was accepted. A refused setter hands the creator back unchanged (RULES: F2).
-#[derive(Clone, Copy)]
-pub struct RXTimingSetupReqCreatorAnswer {
-    pub verdict: Verdict,
-    pub creator: RXTimingSetupReqCreator,
+impl Default for RXTimingSetupReqCreator {
+    ghost is_default = { λ r. r.«data» ≡ default_of (named "RXTimingSetupReq") };
+
+    // Not filled in: even the CID is 0.
+    fn default() -> Self {
+        RXTimingSetupReqCreator { data: [0; 2] }
+    }
 }
 
-impl RXTimingSetupReqCreator {
-    pub fn new() -> RXTimingSetupReqCreator
-        ensures { result.«data» ≡ new_of (named "RXTimingSetupReq") }
-    {
+impl Creator<2> for RXTimingSetupReqCreator {
+    type Kind = DownlinkKind;
+
+    ghost command = { named "RXTimingSetupReq" };
+
+    ghost image = { λ c. c.«data» };
+
+    ghost short = { Prim.search rules };
+
+    fn new() -> Self {
         RXTimingSetupReqCreator { data: [0x08, 0] }
     }
 
-    // Not filled in: even the CID is 0.
-    pub fn default() -> RXTimingSetupReqCreator
-        ensures { result.«data» ≡ default_of (named "RXTimingSetupReq") }
-    {
-        RXTimingSetupReqCreator { data: [0; 2] }
-    }
-
-    pub fn build(self) -> [u8; 2]
-        ensures { result ≡ self.«data» }
-    {
+    fn build(self) -> [u8; 2] {
         self.data
     }
 
-    pub fn cid(self) -> u8
-        ensures { result ≡ (named "RXTimingSetupReq").cid }
-    {
-        0x08
-    }
-
-    // The image's length.
-    pub fn len(self) -> usize
-        ensures { result ≡ image_length (named "RXTimingSetupReq") }
-    {
-        2
-    }
-
-    // The delay code, 0 to 15.
-    pub fn set_delay(self, delay: u8) -> RXTimingSetupReqCreatorAnswer
-        ensures { (told_verdict result.verdict, result.creator.«data») ≡ checked_at rx_timing_setup_req_delay 10 self.«data» delay }
-    {
-        let mut data = self.data;
-        let verdict = nibble(&mut data, 0, 0, Refusal::DelayOutOfRange, delay);
-        RXTimingSetupReqCreatorAnswer {
-            verdict,
-            creator: RXTimingSetupReqCreator { data },
-        }
+    fn kind(self) -> DownlinkKind {
+        DownlinkKind::RXTimingSetupReq
     }
 }
 
-#[derive(Clone, Copy)]
+#[tactic(auto, unfolding(crate::specs::Image::checked_at, crate::specs::Image::put_at))]
+impl RXTimingSetupReqCreator {
+    // The delay code, 0 to 15. A refusal leaves the creator as it was (RULES: F2).
+    pub fn set_delay(&mut self, delay: u8) -> Result<(), Refusal>
+        ensures { (told_verdict result, self.new.«data») ≡ checked_at rx_timing_setup_req_delay 10 self.old.«data» delay }
+    {
+        self.data[1] = nibble(self.data[1], 0, delay, Refusal::DelayOutOfRange)?;
+        Ok(())
+    }
+}
+
+#[derive(Clone, Copy, Default)]
 pub struct RXTimingSetupAnsCreator {}
 
-impl RXTimingSetupAnsCreator {
-    pub fn new() -> RXTimingSetupAnsCreator
-        ensures { result ≡ record {} }
-    {
+impl Creator<1> for RXTimingSetupAnsCreator {
+    type Kind = UplinkKind;
+
+    ghost command = { named "RXTimingSetupAns" };
+
+    ghost image = { λ _. new_of (named "RXTimingSetupAns") };
+
+    ghost short = { Prim.search rules };
+
+    fn new() -> Self {
         RXTimingSetupAnsCreator {}
     }
 
-    pub fn default() -> RXTimingSetupAnsCreator
-        ensures { result ≡ record {} }
-    {
-        RXTimingSetupAnsCreator {}
-    }
-
-    pub fn build(self) -> [u8; 1]
-        ensures { result ≡ new_of (named "RXTimingSetupAns") }
-    {
+    fn build(self) -> [u8; 1] {
         [0x08]
     }
 
-    pub fn cid(self) -> u8
-        ensures { result ≡ (named "RXTimingSetupAns").cid }
-    {
-        0x08
-    }
-
-    // The image's length.
-    pub fn len(self) -> usize
-        ensures { result ≡ image_length (named "RXTimingSetupAns") }
-    {
-        1
+    fn kind(self) -> UplinkKind {
+        UplinkKind::RXTimingSetupAns
     }
 }

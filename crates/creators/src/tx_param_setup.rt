@@ -1,129 +1,106 @@
-ghost use Rattle.std.specs.Prelude.{◌≡◌, ◌+◌, ◌<◌, ◌≤◌, length};
+ghost use Rattle.std.proofs.Common.{rules};
+ghost use Rattle.std.specs.Prelude.{◌≡◌, ◌<◌};
 ghost use Rattle.table.specs.Table.{named};
 ghost use Rattle.table.specs.Told.{told_verdict};
 ghost use Rattle.fields.specs.Places.{bit, tx_param_setup_req_downlink_dwell_time, tx_param_setup_req_uplink_dwell_time, tx_param_setup_req_max_eirp};
-ghost use Rattle.creators.specs.Image.{new_of, image_length, default_of, checked_at};
+ghost use Rattle.creators.specs.Image.{new_of, default_of, checked_at};
 ghost use Rattle.creators.specs.Setters.{dwell_at};
 
+use crate::creator::Creator;
 use crate::engine::{flag, nibble};
-use table::{Refusal, Verdict};
-
-// Bit k, set. Bit 0 is cleared, as in the Rust, so the power limit may drop by one.
-fn dwell_in(image: &mut [u8], k: u8)
-    requires in_bounds { 1 < length image.old }
-    requires k_bound { 1 + k ≤ 8 }
-    ensures { image.new ≡ dwell_at (bit 0 k) image.old }
-{
-    flag(image, 0, 0, false);
-    flag(image, 0, k, true);
-}
+use crate::kinds::{DownlinkKind, UplinkKind};
+use table::Refusal;
 
 #[derive(Clone, Copy)]
 pub struct TXParamSetupReqCreator {
     pub(crate) data: [u8; 2],
 }
 
-// The creator, and whether the setter was accepted. A refused setter hands the creator back unchanged (RULES: F2).
-#[derive(Clone, Copy)]
-pub struct TXParamSetupReqCreatorAnswer {
-    pub verdict: Verdict,
-    pub creator: TXParamSetupReqCreator,
+impl Default for TXParamSetupReqCreator {
+    ghost is_default = { λ r. r.«data» ≡ default_of (named "TXParamSetupReq") };
+
+    // Not filled in: even the CID is 0.
+    fn default() -> Self {
+        TXParamSetupReqCreator { data: [0; 2] }
+    }
 }
 
-impl TXParamSetupReqCreator {
-    pub fn new() -> TXParamSetupReqCreator
-        ensures { result.«data» ≡ new_of (named "TXParamSetupReq") }
-    {
+impl Creator<2> for TXParamSetupReqCreator {
+    type Kind = DownlinkKind;
+
+    ghost command = { named "TXParamSetupReq" };
+
+    ghost image = { λ c. c.«data» };
+
+    ghost short = { Prim.search rules };
+
+    fn new() -> Self {
         TXParamSetupReqCreator { data: [0x09, 0] }
     }
 
-    // Not filled in: even the CID is 0.
-    pub fn default() -> TXParamSetupReqCreator
-        ensures { result.«data» ≡ default_of (named "TXParamSetupReq") }
-    {
-        TXParamSetupReqCreator { data: [0; 2] }
-    }
-
-    pub fn build(self) -> [u8; 2]
-        ensures { result ≡ self.«data» }
-    {
+    fn build(self) -> [u8; 2] {
         self.data
     }
 
-    pub fn cid(self) -> u8
-        ensures { result ≡ (named "TXParamSetupReq").cid }
-    {
-        0x09
-    }
-
-    // The image's length.
-    pub fn len(self) -> usize
-        ensures { result ≡ image_length (named "TXParamSetupReq") }
-    {
-        2
-    }
-
-    pub fn set_downlink_dwell_time(self) -> TXParamSetupReqCreator
-        ensures { result.«data» ≡ dwell_at tx_param_setup_req_downlink_dwell_time self.«data» }
-    {
-        let mut data = self.data;
-        dwell_in(&mut data, 5);
-        TXParamSetupReqCreator { data }
-    }
-
-    pub fn set_uplink_dwell_time(self) -> TXParamSetupReqCreator
-        ensures { result.«data» ≡ dwell_at tx_param_setup_req_uplink_dwell_time self.«data» }
-    {
-        let mut data = self.data;
-        dwell_in(&mut data, 4);
-        TXParamSetupReqCreator { data }
-    }
-
-    // The index of the power limit, 0 to 15.
-    pub fn set_max_eirp(self, max_eirp: u8) -> TXParamSetupReqCreatorAnswer
-        ensures { (told_verdict result.verdict, result.creator.«data») ≡ checked_at tx_param_setup_req_max_eirp 11 self.«data» max_eirp }
-    {
-        let mut data = self.data;
-        let verdict = nibble(&mut data, 0, 0, Refusal::MaxEirpOutOfRange, max_eirp);
-        TXParamSetupReqCreatorAnswer {
-            verdict,
-            creator: TXParamSetupReqCreator { data },
-        }
+    fn kind(self) -> DownlinkKind {
+        DownlinkKind::TXParamSetupReq
     }
 }
 
-#[derive(Clone, Copy)]
+#[tactic(auto, unfolding(crate::specs::Image::checked_at, crate::specs::Image::put_at, crate::specs::Setters::dwell_at))]
+impl TXParamSetupReqCreator {
+    // Bit k, set. Bit 0 is cleared, as in the Rust, so the power limit may drop by one.
+    fn set_dwell_time(mut self, k: u8) -> Self
+        requires { k < 8 }
+        ensures { result.«data» ≡ dwell_at (bit 0 k) self.«data» }
+    {
+        self.data[1] = flag(self.data[1], 0, false);
+        self.data[1] = flag(self.data[1], k, true);
+        self
+    }
+
+    pub fn set_downlink_dwell_time(self) -> Self
+        ensures { result.«data» ≡ dwell_at tx_param_setup_req_downlink_dwell_time self.«data» }
+    {
+        self.set_dwell_time(5)
+    }
+
+    pub fn set_uplink_dwell_time(self) -> Self
+        ensures { result.«data» ≡ dwell_at tx_param_setup_req_uplink_dwell_time self.«data» }
+    {
+        self.set_dwell_time(4)
+    }
+
+    // The index of the power limit, 0 to 15. A refusal leaves the creator as it was (RULES: F2).
+    pub fn set_max_eirp(&mut self, max_eirp: u8) -> Result<(), Refusal>
+        ensures { (told_verdict result, self.new.«data») ≡ checked_at tx_param_setup_req_max_eirp 11 self.old.«data» max_eirp }
+    {
+        self.data[1] = nibble(self.data[1], 0, max_eirp, Refusal::MaxEirpOutOfRange)?;
+        Ok(())
+    }
+}
+
+#[derive(Clone, Copy, Default)]
 pub struct TXParamSetupAnsCreator {}
 
-impl TXParamSetupAnsCreator {
-    pub fn new() -> TXParamSetupAnsCreator
-        ensures { result ≡ record {} }
-    {
+impl Creator<1> for TXParamSetupAnsCreator {
+    type Kind = UplinkKind;
+
+    ghost command = { named "TXParamSetupAns" };
+
+    ghost image = { λ _. new_of (named "TXParamSetupAns") };
+
+    ghost short = { Prim.search rules };
+
+    fn new() -> Self {
         TXParamSetupAnsCreator {}
     }
 
-    pub fn default() -> TXParamSetupAnsCreator
-        ensures { result ≡ record {} }
-    {
-        TXParamSetupAnsCreator {}
-    }
-
-    pub fn build(self) -> [u8; 1]
-        ensures { result ≡ new_of (named "TXParamSetupAns") }
-    {
+    fn build(self) -> [u8; 1] {
         [0x09]
     }
 
-    pub fn cid(self) -> u8
-        ensures { result ≡ (named "TXParamSetupAns").cid }
-    {
-        0x09
-    }
-
-    // The image's length.
-    pub fn len(self) -> usize
-        ensures { result ≡ image_length (named "TXParamSetupAns") }
-    {
-        1
+    fn kind(self) -> UplinkKind {
+        UplinkKind::TXParamSetupAns
     }
 }

@@ -17,7 +17,7 @@ use Rattle.table.specs.Table.{length_of}
 use Rattle.payloads.specs.Commands.{sent_down}
 use Rattle.walk.specs.Walk.{Rule}
 use Rattle.build.specs.Build.{Built, total, refused_at, refused, next, sum_from, total_of, fill, build_of}
-use Rattle.build.specs.Records.{Item, whole, part, measured, judged, judged_item, slots_of}
+use Rattle.build.specs.Records.{Item, whole, part, measured, judged_item, slots_of}
 use Rattle.build.proofs.Judging.{at_most_six}
 use Rattle.build.proofs.Sums.{too_many, not_too_many}
 use Rattle.exports.specs.Answer.{in_one, TellsApart}

@@ -6,21 +6,18 @@ ghost use Rattle.jumps.specs.Entries.{made};
 ghost use Rattle.jumps.specs.Jump.{jumped};
 ghost use Rattle.exports.specs.Jumps.{with_entries, spot_in_one};
 
-use jumps::{EntriesAnswer, JumpAnswer, jump_to, make_entries};
-use table::{Direction, Rules};
+use crate::DOWN;
+use jumps::{jump_to, make_entries};
 
 // Makes the entries of a stream, at the front of lent numbers. Answers how many, or, from 2 ^ 32 on, a refusal: its number times 2 ^ 32.
 #[unsafe(no_mangle)]
 pub extern "C" fn nazhdivar_entries(stream: &[u8], numbers: &mut [u32]) -> u64
     ensures { (result, numbers.new) ≡ with_entries (made (length_of sent_down) stream.now numbers.old) }
 {
-    let rules = Rules {
-        direction: Direction::Down,
-    };
-    let answer = make_entries(rules, stream, numbers);
-    match answer {
-        EntriesAnswer::Total(total) => total as u64,
-        EntriesAnswer::Refused(reason) => (reason.number() as u64) * 4_294_967_296,
+    // One number, for C.
+    match make_entries(DOWN, stream, numbers) {
+        Ok(total) => total as u64,
+        Err(reason) => (reason.number() as u64) * 4_294_967_296,
     }
 }
 
@@ -29,15 +26,12 @@ pub extern "C" fn nazhdivar_entries(stream: &[u8], numbers: &mut [u32]) -> u64
 pub extern "C" fn nazhdivar_jump(stream: &[u8], entries: &[u32], n: usize) -> u64
     ensures { result ≡ spot_in_one (jumped (length_of sent_down) stream.now entries.now n) }
 {
-    let rules = Rules {
-        direction: Direction::Down,
-    };
-    let answer = jump_to(rules, stream, entries, n);
-    match answer {
-        JumpAnswer::Command { at, cid, len } => {
-            let high = (at as u64) * 65_536;
-            high + (cid as u64) * 256 + (len as u64)
+    // One number, for C.
+    match jump_to(DOWN, stream, entries, n) {
+        Ok(spot) => {
+            let high = (spot.at as u64) * 65_536;
+            high + (spot.cid as u64) * 256 + (spot.len as u64)
         }
-        JumpAnswer::Refused(reason) => reason.number() as u64,
+        Err(reason) => reason.number() as u64,
     }
 }

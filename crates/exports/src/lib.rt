@@ -11,3 +11,9 @@ pub use jump::{nazhdivar_entries, nazhdivar_jump};
 pub use listing::{nazhdivar_listing, nazhdivar_listing_len};
 pub use records::nazhdivar_build;
 pub use streams::nazhdivar_count;
+use table::{Direction, Rules};
+
+// The rules of what a device is sent.
+pub(crate) const DOWN: Rules = Rules {
+    direction: Direction::Down,
+};

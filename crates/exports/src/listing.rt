@@ -7,15 +7,17 @@ ghost use Rattle.listings.specs.Listing.{listing_of};
 ghost use Rattle.listings.specs.Told.{told_listing};
 ghost use Rattle.exports.specs.Listing.{number as Listing·number, with_number};
 
-use listings::{ListingAnswer, listing_len, write_listing};
-use table::{Direction, Rules};
+use crate::DOWN;
+use listings::{listing_len, write_listing};
+use table::Refusal;
 
-fn number(answer: ListingAnswer) -> u64
+// One number, for C.
+fn number(answer: Result<usize, Refusal>) -> u64
     ensures { result ≡ Listing·number (told_listing answer) }
 {
     match answer {
-        ListingAnswer::Total(total) => total as u64,
-        ListingAnswer::Refused(reason) => reason.number() as u64,
+        Ok(total) => total as u64,
+        Err(reason) => reason.number() as u64,
     }
 }
 
@@ -24,10 +26,7 @@ fn number(answer: ListingAnswer) -> u64
 pub extern "C" fn nazhdivar_listing_len(frame: u32, stream: &[u8]) -> u64
     ensures { result ≡ Listing·number (length_within largest (listing_of sent_down frame stream.now)) }
 {
-    let rules = Rules {
-        direction: Direction::Down,
-    };
-    number(listing_len(rules, frame, stream))
+    number(listing_len(DOWN, frame, stream))
 }
 
 // The text, at the front of lent memory.
@@ -35,9 +34,5 @@ pub extern "C" fn nazhdivar_listing_len(frame: u32, stream: &[u8]) -> u64
 pub extern "C" fn nazhdivar_listing(frame: u32, stream: &[u8], out: &mut [u8]) -> u64
     ensures { (result, out.new) ≡ with_number (into (listing_of sent_down frame stream.now) out.old) }
 {
-    let rules = Rules {
-        direction: Direction::Down,
-    };
-    let answer = write_listing(rules, frame, stream, out);
-    number(answer)
+    number(write_listing(DOWN, frame, stream, out))
 }

@@ -5,8 +5,8 @@ ghost use Rattle.build.specs.Build.{build_of};
 ghost use Rattle.build.specs.Records.{slots_of};
 ghost use Rattle.exports.specs.Answer.{with_one};
 
-use build::{BuildAnswer, build_mac_commands};
-use table::{Direction, Rules};
+use crate::DOWN;
+use build::{BuildError, build_mac_commands};
 
 // Writes the commands of packed records, eight bytes each, that a device is sent. Answers the bytes written, or, from 2 ^ 32 on, a
 // refusal: its number times 2 ^ 32, and the place of the record at fault.
@@ -14,16 +14,12 @@ use table::{Direction, Rules};
 pub extern "C" fn nazhdivar_build(records: &[u8], out: &mut [u8]) -> u64
     ensures { (result, out.new) ≡ with_one (build_of (length_of sent_down) (slots_of records.now) out.old) }
 {
-    let rules = Rules {
-        direction: Direction::Down,
-    };
-    let answer = build_mac_commands(rules, records, out);
-    match answer {
-        BuildAnswer::Total(total) => total as u64,
-        BuildAnswer::RefusedAt { reason, place } => {
-            let high = (reason.number() as u64) * 4_294_967_296;
-            high + (place as u64)
+    // One number, for C.
+    match build_mac_commands(DOWN, records, out) {
+        Ok(total) => total as u64,
+        Err(BuildError::At { reason, place }) => {
+            (reason.number() as u64) * 4_294_967_296 + (place as u64)
         }
-        BuildAnswer::Refused(reason) => (reason.number() as u64) * 4_294_967_296,
+        Err(BuildError::Whole(reason)) => (reason.number() as u64) * 4_294_967_296,
     }
 }

@@ -4,7 +4,7 @@ ghost use Rattle.table.specs.Table.{length_of};
 ghost use Rattle.payloads.specs.Commands.{sent_down};
 ghost use Rattle.walk.specs.Walk.{walk_of};
 
-use table::{Direction, Rules};
+use crate::DOWN;
 use walk::walk;
 
 // How many commands the walk hands out.
@@ -12,9 +12,5 @@ use walk::walk;
 pub extern "C" fn nazhdivar_count(stream: &[u8]) -> usize
     ensures { result ≡ length (walk_of (length_of sent_down) stream.now).cmds }
 {
-    let rules = Rules {
-        direction: Direction::Down,
-    };
-    let end = walk(rules, stream);
-    end.count
+    walk(DOWN, stream).count
 }

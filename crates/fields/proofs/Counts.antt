@@ -10,7 +10,7 @@ use native.Mathlib.Omega.{arith}
 use lib.Arith.{lt-one}
 use lib.Count.{ones, ones_step, ones_cat}
 use lib.Dec.{eqb}
-use lib.ListN.{length}
+use lib.ListN.{length, get_or}
 use lib.Pow.{shr-shr}
 use Rattle.bits.specs.Bits.{Byte, bit_on, bit_of}
 use Rattle.bits.specs.Every.{Every}
@@ -73,3 +73,11 @@ on_are_ones (b ∷ m) h =
     ∙ add_comm (ones b) (ones (low_first m))
     ∙ sym (ones_cat 8 (low_first m) b h.0)
     ∙ ap ones swap
+
+-- of two bytes, the ones of the 16-bit number that they make
+pub on_in_word : (m : List ℕ) (n : ℕ) → n ≡ get_or m 0 0 + get_or m 1 0 * 256 → length m ≡ 2 → get_or m 0 0 < 256 → get_or m 1 0 < 256
+    → ones n ≡ channels_on m
+on_in_word (low ∷ high ∷ []) n e w l h = ap ones (omega arith) ∙ sym (on_are_ones (low ∷ high ∷ []) (l, (h, tt)))
+on_in_word [] n e w l h = absurd (omega arith)
+on_in_word (low ∷ []) n e w l h = absurd (omega arith)
+on_in_word (low ∷ high ∷ more ∷ m) n e w l h = absurd (omega arith)

@@ -3,22 +3,15 @@ use mathlib.Core.Path.{◌≡◌, refl, sym, ap, ◌∙◌}
 use mathlib.Core.Logic.{inl, inr, ◌≢◌}
 use mathlib.Core.Bool.{Bool, true, false}
 use mathlib.Core.List.{List}
-use Prim.Native.Nat.{ℕ, ◌/◌, ◌%◌, ◌^◌, ◌<◌, ◌≤◌}
-use native.Mathlib.Nat.{zero-div}
+use Prim.Native.Nat.{ℕ, ◌/◌, ◌%◌, ◌^◌, ◌<◌}
 use native.Mathlib.Decide.{dec_lt, ℕ_discrete}
 use native.Mathlib.Omega.{arith}
 use lib.Dec.{eqb, lit<}
-use lib.ListN.{length, get_or, get_or-eq_default}
+use lib.ListN.{length, get_or}
 use lib.Seq.{get_or-set_same, get_or-set_other}
 use Rattle.bits.specs.Bits.{set_field, bit_on, bit_of}
 use Rattle.bits.proofs.Laws.{read_put, put_leaves}
 use Rattle.fields.specs.Mask.{channel_on, switched}
-
--- a channel past the mask is off
-pub past_off : (m : List ℕ) (c : ℕ) → length m ≤ c / 8 → false ≡ channel_on m c
-past_off m c h =
-    sym (ap (bit_on (c % 8)) (get_or-eq_default m 0 h)
-    ∙ ap (λ (n : ℕ). eqb (n % 2) 1) (zero-div (2 ^ (c % 8))))
 
 pub bit_fits : (on : Bool) → bit_of on < 2 ^ 1
 bit_fits true = lit< tt

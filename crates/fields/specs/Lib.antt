@@ -3,4 +3,3 @@ pub mod Lists
 pub mod Mask
 pub mod Places
 pub mod Settings
-pub mod Told

@@ -12,13 +12,9 @@ channel_on m c = bit_on (c % 8) (get_or m (c / 8) 0)
 abbrev pub all_on : ℕ → List ℕ
 all_on width = replicate width 255
 
--- from a slice: its first bytes, as many as the mask has, in the place of those of m. From a shorter one refusal 4,
--- BufferTooShort, and m as it was
-abbrev pub filled_from : List ℕ → List ℕ → Consent × List ℕ
-filled_from m s = cond (ltb (length s) (length m)) (refused 4, m) (accepted, take (length m) s)
-
-abbrev pub mask_of : ℕ → List ℕ → Consent × List ℕ
-mask_of width s = filled_from (replicate width 0) s
+-- from a slice: its first bytes, as many as the mask has. From a shorter one refusal 4, BufferTooShort
+abbrev pub mask_of : ℕ → List ℕ → Answer (List ℕ)
+mask_of width s = cond (ltb (length s) width) (refused 4) (given (take width s))
 
 -- the bytes, called banks. Refusal 5, InvalidIndex, at or past the width
 abbrev pub bank_of : List ℕ → ℕ → Answer ℕ

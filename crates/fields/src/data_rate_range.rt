@@ -1,53 +1,46 @@
 ghost use Rattle.std.specs.Prelude.{◌≡◌};
-ghost use Rattle.table.specs.Told.{told_verdict};
+ghost use Rattle.table.specs.Told.{told, told_verdict};
 ghost use Rattle.fields.specs.Settings.{max_data_rate, min_data_rate, range_of, range_verdict};
-ghost use Rattle.fields.specs.Told.{told_range};
 
-use table::{Refusal, Verdict};
+use table::Refusal;
 
 // The data rates that a channel may use.
-#[derive(Clone, Copy)]
+#[derive(Clone, Copy, PartialEq, Eq)]
 pub struct DataRateRange(u8);
 
-#[derive(Clone, Copy)]
-pub enum DataRateRangeAnswer {
-    Read(DataRateRange),
-    Refused(Refusal),
+// Any byte, unchecked.
+impl From<u8> for DataRateRange {
+    ghost from_gives = { λ byte range. range.0 ≡ byte };
+
+    fn from(byte: u8) -> Self {
+        DataRateRange(byte)
+    }
 }
 
 impl DataRateRange {
-    // Any byte, unchecked.
-    pub fn new_from_raw(byte: u8) -> DataRateRange
+    // Any byte, unchecked: `From` under the name that the Rust has.
+    pub fn new_from_raw(byte: u8) -> Self
         ensures { result.0 ≡ byte }
     {
         DataRateRange(byte)
     }
 
-    pub fn from(v: u8) -> DataRateRange
-        ensures { result.0 ≡ v }
+    // The Rust's name, and no `TryFrom`: for every type with a `From`, as here, the library has that already.
+    pub fn new(byte: u8) -> Result<Self, Refusal>
+        ensures { told (λ range. range.0) result ≡ range_of byte }
     {
-        DataRateRange(v)
-    }
-
-    pub fn new(byte: u8) -> DataRateRangeAnswer
-        ensures { told_range result ≡ range_of byte }
-    {
-        if byte / 16 < byte % 16 {
-            DataRateRangeAnswer::Refused(Refusal::InvalidDataRateRange)
-        } else {
-            DataRateRangeAnswer::Read(DataRateRange(byte))
-        }
+        DataRateRange::can_build_from(byte)?;
+        Ok(DataRateRange(byte))
     }
 
     // Whether `new` takes the byte.
-    pub fn can_build_from(byte: u8) -> Verdict
+    pub fn can_build_from(byte: u8) -> Result<(), Refusal>
         ensures { told_verdict result ≡ range_verdict byte }
     {
         if byte / 16 < byte % 16 {
-            Verdict::Refused(Refusal::InvalidDataRateRange)
-        } else {
-            Verdict::Accepted
+            return Err(Refusal::InvalidDataRateRange);
         }
+        Ok(())
     }
 
     // The highest data rate allowed on the channel.

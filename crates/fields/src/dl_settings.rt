@@ -2,20 +2,23 @@ ghost use Rattle.std.specs.Prelude.{◌≡◌};
 ghost use Rattle.fields.specs.Settings.{rx1_dr_offset, rx2_data_rate};
 
 // The downlink settings of RXParamSetupReq.
-#[derive(Clone, Copy)]
+#[derive(Clone, Copy, PartialEq, Eq)]
 pub struct DLSettings(u8);
 
+impl From<u8> for DLSettings {
+    ghost from_gives = { λ byte settings. settings.0 ≡ byte };
+
+    fn from(byte: u8) -> Self {
+        DLSettings(byte)
+    }
+}
+
 impl DLSettings {
-    pub fn new(byte: u8) -> DLSettings
+    // `From` under the name that the Rust has.
+    pub fn new(byte: u8) -> Self
         ensures { result.0 ≡ byte }
     {
         DLSettings(byte)
-    }
-
-    pub fn from(v: u8) -> DLSettings
-        ensures { result.0 ≡ v }
-    {
-        DLSettings(v)
     }
 
     // The offset between the uplink data rate and the downlink data rate in the first receive window.

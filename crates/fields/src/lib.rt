@@ -7,10 +7,8 @@ pub mod dl_settings;
 pub mod frequency;
 pub mod redundancy;
 
-pub use channel_mask::{
-    BankAnswer, ChannelMask2, ChannelMask2Answer, ChannelMask9, ChannelMask9Answer, EnabledAnswer,
-};
-pub use data_rate_range::{DataRateRange, DataRateRangeAnswer};
+pub use channel_mask::{ChannelMask, ChannelMask2, ChannelMask9};
+pub use data_rate_range::DataRateRange;
 pub use dl_settings::DLSettings;
-pub use frequency::{Frequency, FrequencyAnswer};
+pub use frequency::Frequency;
 pub use redundancy::Redundancy;

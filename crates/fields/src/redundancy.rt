@@ -1,21 +1,24 @@
 ghost use Rattle.std.specs.Prelude.{◌≡◌};
 ghost use Rattle.fields.specs.Settings.{channel_mask_control, number_of_transmissions};
 
-// The redundancy byte of LinkADRReq.
-#[derive(Clone, Copy)]
+// The redundancy byte of LinkADRReq: a type of its own beside DLSettings, with readers of its own (RULES: S1, M2).
+#[derive(Clone, Copy, PartialEq, Eq)]
 pub struct Redundancy(u8);
 
+impl From<u8> for Redundancy {
+    ghost from_gives = { λ byte redundancy. redundancy.0 ≡ byte };
+
+    fn from(byte: u8) -> Self {
+        Redundancy(byte)
+    }
+}
+
 impl Redundancy {
-    pub fn new(data: u8) -> Redundancy
+    // `From` under the name that the Rust has.
+    pub fn new(data: u8) -> Self
         ensures { result.0 ≡ «data» }
     {
         Redundancy(data)
-    }
-
-    pub fn from(v: u8) -> Redundancy
-        ensures { result.0 ≡ v }
-    {
-        Redundancy(v)
     }
 
     // How the channel mask beside it is to be understood.

@@ -1,14 +1,15 @@
 -- The entries of a stream: how many, and where each is. Assumes nothing.
 use Prim.Native.Nat.{ℕ, zero, suc, ◌+◌, ◌*◌, ◌-◌, ◌/◌, ◌≤◌, ◌<◌}
-use mathlib.Core.List.{List, [], ◌∷◌, ◌++◌}
+use mathlib.Core.List.{List, [], ◌∷◌, ◌++◌, append-nil}
 use mathlib.Core.Path.{◌≡◌, refl, sym, ap, ap₂, ◌∙◌, subst}
 use native.Mathlib.Decide.{dec_lt}
 use native.Mathlib.Nat.{not-suc-le-zero, sub-zero, zero-add}
 use native.Mathlib.Numerals.{add-one}
 use native.Mathlib.Omega.{arith}
-use lib.ListN.{length, get_or, drop, set}
+use lib.ListN.{length, get_or, drop, set, drop_of_length-le}
 use lib.Seq.{take-length, drop-drop, paste, paste-zero, paste-suc, length-paste}
 use borrow.Author.Tests.{lt-ltb, le-ltb}
+use Rattle.std.specs.Int.{div_ceil}
 use Rattle.bits.specs.Memory.{over}
 use Rattle.table.specs.Answers.{Answer, given, refused}
 use Rattle.walk.specs.Ownership.{offset_of}
@@ -57,9 +58,14 @@ module _ (L : Rule) (s : List ℕ) where
 
   -- ---- what the making answers
 
+  ceil : (n : ℕ) → div_ceil n 16 ≡ (n + 15) / 16
+  ceil n = omega arith
+
   -- as many as the walk's count says
-  pub total_is : (end : WalkEnd) {total : ℕ} → told_walk end ≡ tally (walk_of L s) → total ≡ (end.count + 15) / 16 → total ≡ length (entries_of L s)
-  total_is end e t = t ∙ ap (λ (a : Answer Ending × ℕ). (a.1 + 15) / 16) e ∙ sym entries_count
+  pub total_is : (end : WalkEnd) {total : ℕ} → told_walk end ≡ tally (walk_of L s) → total ≡ div_ceil end.count 16 → total ≡ length (entries_of L s)
+  total_is end {total} e t =
+      let rounded : total ≡ (end.count + 15) / 16 = t ∙ ceil end.count in
+      rounded ∙ ap (λ (a : Answer Ending × ℕ). (a.1 + 15) / 16) e ∙ sym entries_count
 
   module _ {total : ℕ} (numbers : List ℕ) (t : total ≡ length (entries_of L s)) where
     pub made_short : length numbers < total → (refused 4, numbers) ≡ made L s numbers
@@ -75,6 +81,10 @@ module _ (L : Rule) (s : List ℕ) where
     made_all h g e =
         rw (le-ltb (length numbers) (length (entries_of L s)) (omega arith), le-ltb 4_294_967_295 (length s) g)
         (ap₂ (λ (n : ℕ) (o : List ℕ). (given n, o)) t e)
+
+    -- the entries over as many numbers at the front
+    pub made_front : {new : List ℕ} → new ≡ entries_of L s → new ++ drop total numbers ≡ over numbers 0 (entries_of L s)
+    made_front e = ap₂ (λ (o : List ℕ) (n : ℕ). o ++ drop n numbers) e (t ∙ sym (zero-add (length (entries_of L s))))
 
   -- ---- entries written one by one
 
@@ -107,10 +117,13 @@ module _ (L : Rule) (s : List ℕ) where
               ∙ ap (paste numbers 0 (entries_of L s)) (sym (add-one k));
         }
 
-    pub written_all : {k at : ℕ} {out : List ℕ} → k ≡ length (entries_of L s) → Written numbers k at out → out ≡ over numbers 0 (entries_of L s)
-    written_all {k} e w =
+    -- all of them, where there are no more numbers
+    pub written_all : {k at : ℕ} {out : List ℕ} → k ≡ length (entries_of L s) → length numbers ≡ length (entries_of L s) → Written numbers k at out → out ≡ entries_of L s
+    written_all {k} e n w =
         w.front ∙ ap (paste numbers 0 (entries_of L s)) e
         ∙ ap (λ (l : List ℕ). l ++ drop (0 + length (entries_of L s)) numbers) (take-length (entries_of L s))
+        ∙ ap (λ (l : List ℕ). entries_of L s ++ l) (drop_of_length-le numbers {i = 0 + length (entries_of L s)} (omega arith))
+        ∙ append-nil (entries_of L s)
 
   -- ---- what its answer tells
 

@@ -13,11 +13,10 @@ use Rattle.table.specs.declared.rules.Rules.{Rules}
 use Rattle.payloads.specs.Commands.{in_five}
 use Rattle.walk.specs.Step.{ended, command, stopped as stopping, heading, step_at}
 use Rattle.walk.specs.Walk.{placed}
-use Rattle.ledger.specs.Book.{Book, noted, put, opening, asked, step, onward, steps}
+use Rattle.ledger.specs.Book.{Book, noted, opening, asked, step, onward, steps}
 use Rattle.ledger.specs.Events.{Request, Event, request, reply, stop_at, is_request, agrees_with, place, event_of}
-use Rattle.ledger.specs.Memory.{five_of, pending_in}
 use Rattle.ledger.specs.Parents.{stopped}
-use Rattle.ledger.specs.Working.{made, reply_of, book_in, fault_in, events_from}
+use Rattle.ledger.specs.Working.{reply_of, fault_in, events_from}
 use Rattle.ledger.proofs.Walking.{events_command, events_end, events_stop}
 
 -- ---- a run of events
@@ -76,15 +75,11 @@ module _ (rules : Rules) (n f at cid : ℕ) (body : List ℕ) where
       ap (λ (t : Bool). step (cond t (request asking) (reply (reply_of cid (agrees_with cid body) n f at))) b) h
       ∙ ap (λ (t : Bool). step (reply (reply_of cid t n f at)) b) (sym e)
 
-  pub request_taken : (lines listed payload : ℕ) (p h l p' : List ℕ) → is_request rules cid ≡ true → five_of payload ≡ (in_five body).1
-      → fault_in (step (event_of rules n f (placed at cid body)) (book_in lines listed p h l)) ≡ 0
-      → pending_in p' ≡ put cid (pending_in p cid ++ (made cid n f at payload ∷ [])) (pending_in p)
-      → given (book_in lines listed p' h l) ≡ step (event_of rules n f (placed at cid body)) (book_in lines listed p h l)
-  request_taken lines listed payload p h l p' q five ok after =
-      let b = book_in lines listed p h l in
-      let made_is : made cid n f at payload ≡ asking = ap (λ (x : List ℕ). record { at = place n f at; cid = cid; body = x }) five in
-      let opened : pending_in p' ≡ put cid (pending_in p cid ++ (asking ∷ [])) (pending_in p) = after ∙ ap (λ (r : Request). put cid (pending_in p cid ++ (r ∷ [])) (pending_in p)) made_is in
-      ap (λ (o : ℕ → List Request). given (record { lines = lines; listed = listed; pending = o; held = b.held; list = l })) opened
+  pub request_taken : (b c : Book) (r : Request) → is_request rules cid ≡ true → r ≡ asking
+      → fault_in (step (event_of rules n f (placed at cid body)) b) ≡ 0 → c ≡ opening cid (b.pending cid ++ (r ∷ [])) b
+      → given c ≡ step (event_of rules n f (placed at cid body)) b
+  request_taken b c r q same ok after =
+      ap given (after ∙ ap (λ (x : Request). opening cid (b.pending cid ++ (x ∷ [])) b) same)
       ∙ sym (is_asked b q ∙ asked_is asking b (ap fault_in (sym (is_asked b q)) ∙ ok))
 
 -- ---- along a stream

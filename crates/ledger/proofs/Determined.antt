@@ -1,14 +1,18 @@
 -- Any two outcomes that a public function's contract admits are equal. Assumes nothing.
 use Prim.Native.Nat.{ℕ}
-use mathlib.Core.Path.{◌≡◌, refl, sym, ap, ◌∙◌}
+use mathlib.Core.Path.{◌≡◌, refl, sym, ap, ap₂, ◌∙◌}
 use Rattle.bits.proofs.Fixed.{Fixed, by_inverse}
-use Rattle.table.specs.declared.refusal.Verdict.{Verdict}
-use Rattle.table.proofs.Told.{verdict_tells}
+use Rattle.std.specs.Prelude.{Result, Ok, Err}
+use Rattle.table.proofs.Told.{numbered, numbered_number}
+use Rattle.table.specs.Answers.{Consent, given, refused}
+use Rattle.table.specs.declared.refusal.Refusal.{Refusal}
 use Rattle.ledger.specs.Asked.{note_of}
 use Rattle.ledger.specs.Book.{Book}
 use Rattle.ledger.specs.Memory.{book_of}
 use Rattle.ledger.specs.Parents.{Note}
+use Rattle.ledger.specs.Told.{told_replay, told_line}
 use Rattle.ledger.specs.declared.entries.Entry.{Entry}
+use Rattle.ledger.specs.declared.exchange.BadLine.{BadLine}
 use Rattle.ledger.proofs.Ledger.new.Reads as new
 use Rattle.ledger.proofs.Ledger.data_rate.Reads as data_rate
 use Rattle.ledger.proofs.Ledger.tx_power.Reads as tx_power
@@ -35,6 +39,22 @@ entry_of n = record { kind = n.kind; line = n.at.line; frame = n.at.frame; offse
 entry_tells : {a b : Entry} → note_of a ≡ note_of b → a ≡ b
 unfolding entry_of
 entry_tells p = by_inverse note_of entry_of (λ e. refl) p
+
+-- a replay's answer is known from what it tells
+bad_line : ℕ → ℕ → BadLine
+bad_line k n = record { reason = numbered k; line = n }
+
+replay_of : Consent → ℕ → Result Unit BadLine
+replay_of (given _) n = Ok tt
+replay_of (refused k) n = Err (bad_line k n)
+
+replay_back : (r : Result Unit BadLine) → replay_of (told_replay r) (told_line r) ≡ r
+unfolding replay_of bad_line
+replay_back (Ok x) = refl
+replay_back (Err e) = ap (λ (r : Refusal). Err (record { reason = r; line = e.line })) (numbered_number e.reason)
+
+replay_tells : (r s : Result Unit BadLine) → told_replay r ≡ told_replay s → told_line r ≡ told_line s → r ≡ s
+replay_tells r s p q = sym (replay_back r) ∙ ap₂ replay_of p q ∙ replay_back s
 
 new_one : Fixed new.Post
 new_one _ _ _ _ _ _ p q = p ∙ sym q
@@ -93,6 +113,6 @@ FixedAs {K = K} {A = A} {R = R} {S = S} seen Post =
     (κs : K) (args : A) (x y : R) (exit exit' : S) → Post κs args x exit → Post κs args y exit' → seen x exit ≡ seen y exit'
 
 -- of a replay that is the verdict, the line, the list, and of the ledger its book, by which all is answered that can be asked of it
-replay_trace_one : FixedAs {W = Verdict × ℕ × Book} (λ r s. (r.verdict, r.line, book_of r.ledger s.1.1.0.now)) replay_trace.Post
+replay_trace_one : FixedAs {W = Result Unit BadLine × Book} (λ r s. (r, book_of s.0.now s.1.1.0.now)) replay_trace.Post
 replay_trace_one _ _ x y _ _ p q =
-    λ i. (verdict_tells {v = x.verdict} {w = y.verdict} (ap (λ z. z.0) (p ∙ sym q)) i, ap (λ z. z.1) (p ∙ sym q) i, ap (λ z. z.2) (p ∙ sym q) i)
+    λ i. (replay_tells x y (ap (λ z. z.0) (p ∙ sym q)) (ap (λ z. z.1) (p ∙ sym q)) i, ap (λ z. z.2) (p ∙ sym q) i)

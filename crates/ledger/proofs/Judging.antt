@@ -1,44 +1,36 @@
 -- A line is judged rightly before anything of it is written: what its commands will find is known from the open requests before it, and from how
 -- many commands of each CID went before. Assumes nothing.
-use Prim.Native.Nat.{ℕ, ◌+◌, ◌-◌, ◌*◌, ◌/◌, ◌%◌, ◌<◌, ◌≤◌}
-use mathlib.Core.Bool.{Bool, true, false, cond, ◌&&◌, ◌||◌, true≢false}
-use mathlib.Core.List.{List, [], ◌∷◌, ◌++◌, head?, tail}
+use Prim.Native.Nat.{ℕ, zero, suc, ◌+◌, ◌-◌, ◌*◌, ◌/◌, ◌<◌, ◌≤◌}
+use mathlib.Core.Bool.{Bool, true, false, cond, ◌&&◌, true≢false}
+use mathlib.Core.List.{List, [], ◌∷◌, ◌++◌, head?, tail, map}
+use Rattle.std.specs.Prelude.{None, Some, slice_get}
 use mathlib.Core.Option.{Option, none, some}
 use mathlib.Core.Path.{◌≡◌, refl, sym, ap, ◌∙◌, subst}
 use native.Mathlib.Decide.{dec_lt}
+use native.Mathlib.Nat.{sub-zero}
 use native.Mathlib.Omega.{arith}
-use borrow.Author.Tests.{eqb-true, eqb-false, eq-eqb, ne_eqb, lt-ltb, le-ltb}
+use borrow.Author.Tests.{eqb-true, eqb-false, lt-ltb, le-ltb}
 use lib.Dec.{eqb, ltb}
-use lib.ListN.{
-  length,
-  get_or,
-  take,
-  drop,
-  set,
-  replicate,
-  length-append,
-  length-set,
-  drop_of_length-le,
-  get_or-replicate,
-  get_or-eq_default,
-}
-use lib.Seq.{drop-cons, drop-drop, get_or-set_same, get_or-set_other}
+use lib.ListN.{length, get_or, take, drop, set, replicate, length-append, length-set, get_or-replicate, get_or-eq_default}
+use lib.Seq.{drop-drop, get_or-set_same, get_or-set_other}
 use Rattle.bits.proofs.Memory.{over_length}
-use Rattle.bits.specs.Bits.{field, bit_of}
+use Rattle.bits.specs.Bits.{bit_of}
 use Rattle.bits.specs.Memory.{over}
-use Rattle.fields.proofs.Lists.{length_tabulate, get_d_tabulate}
 use Rattle.payloads.specs.Commands.{in_five}
-use Rattle.table.specs.Answers.{Answer, given, refused}
+use Rattle.table.specs.Answers.{Answer, given, refused, accepted}
 use Rattle.table.specs.Table.{length_of}
 use Rattle.table.specs.declared.rules.Rules.{Rules}
-use Rattle.walk.specs.Step.{ended, command, stopped as stopped_at, heading, step_at}
+use Rattle.walk.specs.Step.{ended as ended_step, command, stopped as stopped_at, heading, step_at}
 use Rattle.walk.specs.Walk.{placed}
 use Rattle.ledger.specs.Book.{Book, in_four, noted, put, opening, takes_effect, decided, answering, asked, step, onward, steps}
 use Rattle.ledger.specs.Events.{Request, Reply, Event, request, reply, is_request, agrees_with, place, event_of}
-use Rattle.ledger.specs.Memory.{at_most, request_at, pending_in}
+use Rattle.ledger.specs.Memory.{request_of, open_requests, open_in, pending_in}
 use Rattle.ledger.specs.Parents.{Note, beyond, stray, stopped, brought_by}
 use Rattle.ledger.specs.Settings.{is_beyond}
-use Rattle.ledger.specs.Working.{reply_of, book_in, fault_in, events_from, Judges}
+use Rattle.ledger.specs.Working.{reply_of, book_in, ended, events_from, taking, left_behind, Judges}
+use Rattle.ledger.specs.declared.memory.Asked.{Asked}
+use Rattle.ledger.specs.declared.memory.Queue.{Queue}
+use Rattle.ledger.specs.declared.memory.Parents.{Parents}
 use Rattle.ledger.proofs.Walking.{Stands, stands, events_command, events_end, events_stop, never_refused}
 
 -- ---- lists
@@ -54,89 +46,50 @@ none_tail : {A : Type 0} (l : List A) → head? l ≡ none → l ≡ tail l
 none_tail [] e = refl
 none_tail (a ∷ l) e = let no_way : ◌≡◌ {A = ℕ} 0 1 = cc in absurd (omega arith)
 
--- ---- the open requests of a CID
-
-open_at : (p : List ℕ) (c k : ℕ) → k < length (pending_in p c) → head? (drop k (pending_in p c)) ≡ some (request_at c p (32 * c + 4 * k))
-open_at p c k h =
-    let l : length (pending_in p c) ≡ at_most 8 (get_or p (512 + c) 0) = length_tabulate _ _ in
-    ap head? (drop-cons (pending_in p c) k (request_at c p 0) h) ∙ ap some (get_d_tabulate _ _ k (request_at c p 0) (omega arith))
-
--- ---- a request for a channel that is not held, by the low byte of its payload
-
-index : (n : ℕ) → field 0 8 (n % 256) ≡ n % 256
-index n = omega arith
-
-either : (t : Bool) → (t || false) ≡ t
-either true = refl
-either false = refl
-
-module _ (p : List ℕ) {c : ℕ} (i : ℕ) where
-  pub beyond_new : c ≡ 0x07 → ltb 15 (get_or p (i + 3) 0 % 256) ≡ is_beyond (request_at c p i)
-  beyond_new e = sym (ap (λ (k : ℕ). is_beyond (request_at k p i)) e ∙ either _ ∙ ap (ltb 15) (index (get_or p (i + 3) 0)))
-
-  pub beyond_dl : c ≡ 0x0A → ltb 15 (get_or p (i + 3) 0 % 256) ≡ is_beyond (request_at c p i)
-  beyond_dl e = sym (ap (λ (k : ℕ). is_beyond (request_at k p i)) e ∙ ap (ltb 15) (index (get_or p (i + 3) 0)))
-
-  pub beyond_not : (c ≡ 0x07 → ⊥) → (c ≡ 0x0A → ⊥) → false ≡ is_beyond (request_at c p i)
-  beyond_not a b = rw (ne_eqb c 7 a, ne_eqb c 10 b)
-
 -- ---- whether an answer brings an entry
 
-module _ (p : List ℕ) (c k : ℕ) where
-  abbrev pub brought : Bool → ℕ
-  brought yea = length (brought_by (reply_of c yea 0 0 0) (head? (drop k (pending_in p c))))
+open_none : (c : ℕ) (l : List Asked) (k : ℕ) → slice_get l k ≡ None → head? (drop k (map (request_of c) l)) ≡ none
+open_none c [] zero e = refl
+open_none c [] (suc k) e = refl
+open_none c (x ∷ l) zero e = cc
+open_none c (x ∷ l) (suc k) e = open_none c l k e
 
-  pub due_stray : (yea : Bool) → length (pending_in p c) ≤ k → 1 ≡ brought yea
-  due_stray yea h = sym (ap (λ (l : List Request). length (brought_by (reply_of c yea 0 0 0) (head? l))) (drop_of_length-le (pending_in p c) {i = k} h))
+open_some : (c : ℕ) (l : List Asked) (k : ℕ) (r : Asked) → slice_get l k ≡ Some r → head? (drop k (map (request_of c) l)) ≡ some (request_of c r)
+open_some c [] zero r e = cc
+open_some c [] (suc k) r e = cc
+open_some c (x ∷ l) zero r e = let same : x ≡ r = cc in ap (λ (y : Asked). some (request_of c y)) same
+open_some c (x ∷ l) (suc k) r e = open_some c l k r e
 
-  brought_at : (yea : Bool) → k < length (pending_in p c)
-      → brought yea ≡ length (brought_by (reply_of c yea 0 0 0) (some (request_at c p (32 * c + 4 * k))))
-  brought_at yea h = ap (λ (o : Option Request). length (brought_by (reply_of c yea 0 0 0) o)) (open_at p c k h)
+module _ (q : Queue) (c k : ℕ) (yea : Bool) where
+  abbrev pub brought : ℕ
+  brought = length (brought_by (reply_of c yea 0 0 0) (head? (drop k (open_requests c q))))
 
-  -- the request that it finds is for a channel that is not held, or for one that is
-  pub due_far : (yea : Bool) → k < length (pending_in p c) → is_beyond (request_at c p (32 * c + 4 * k)) ≡ true → bit_of yea ≡ brought yea
-  due_far yea h q = sym (brought_at yea h ∙ by yea)
-    where
-      by : (yea : Bool) → length (brought_by (reply_of c yea 0 0 0) (some (request_at c p (32 * c + 4 * k)))) ≡ bit_of yea
-      by true = rw q
-      by false = refl
+  pub due_stray : slice_get (open_in q) k ≡ None → 1 ≡ brought
+  due_stray h = sym (ap (λ (o : Option Request). length (brought_by (reply_of c yea 0 0 0) o)) (open_none c (open_in q) k h))
 
-  pub due_near : (yea : Bool) → k < length (pending_in p c) → is_beyond (request_at c p (32 * c + 4 * k)) ≡ false → 0 ≡ brought yea
-  due_near yea h q = sym (brought_at yea h ∙ by yea)
-    where
-      by : (yea : Bool) → length (brought_by (reply_of c yea 0 0 0) (some (request_at c p (32 * c + 4 * k)))) ≡ 0
-      by true = rw q
-      by false = refl
+  module _ (r : Asked) (h : slice_get (open_in q) k ≡ Some r) where
+    brought_at : brought ≡ length (brought_by (reply_of c yea 0 0 0) (some (request_of c r)))
+    brought_at = ap (λ (o : Option Request). length (brought_by (reply_of c yea 0 0 0) o)) (open_some c (open_in q) k r h)
 
--- ---- what a command needs, and what comes of it
+    -- the request that it finds is for a channel that is not held, or for one that is
+    pub due_far : is_beyond (request_of c r) ≡ true → bit_of yea ≡ brought
+    due_far e = sym (brought_at ∙ by yea)
+      where
+        by : (t : Bool) → length (brought_by (reply_of c t 0 0 0) (some (request_of c r))) ≡ bit_of t
+        by true = rw e
+        by false = refl
 
-abbrev pub need_for : (pending : List ℕ) → (asks : Bool) → (before cid : ℕ) → (yea : Bool) → ℕ
-need_for p q k c yea =
-    cond q (cond (ltb (length (pending_in p c) + k) 8) 0 17) (4 * length (brought_by (reply_of c yea 0 0 0) (head? (drop k (pending_in p c)))))
+    pub due_near : is_beyond (request_of c r) ≡ false → 0 ≡ brought
+    due_near e = sym (brought_at ∙ by yea)
+      where
+        by : (t : Bool) → length (brought_by (reply_of c t 0 0 0) (some (request_of c r))) ≡ 0
+        by true = rw e
+        by false = refl
 
-module _ (p : List ℕ) {asks : Bool} (k c : ℕ) (yea : Bool) where
-  pub need_none : asks ≡ true → k < 8 - length (pending_in p c) → 0 ≡ need_for p asks k c yea
-  need_none e h = rw (e, lt-ltb (length (pending_in p c) + k) 8 (omega arith))
+-- ---- what a command takes of the room, and what comes of it
 
-  pub need_full : asks ≡ true → 8 - length (pending_in p c) ≤ k → 17 ≡ need_for p asks k c yea
-  need_full e h = rw (e, le-ltb (length (pending_in p c) + k) 8 (omega arith))
-
-  -- of an answer, where t tells whether an entry is due
-  module _ (t : Bool) (e : asks ≡ false) (q : bit_of t ≡ brought p c k yea) where
-    need_by : 4 * bit_of t ≡ need_for p asks k c yea
-    need_by = rw e (ap (λ (n : ℕ). 4 * n) q)
-
-    pub need_entry : t ≡ true → 4 ≡ need_for p asks k c yea
-    need_entry d = ap (λ (b : Bool). 4 * bit_of b) (sym d) ∙ need_by
-
-    pub need_clear : t ≡ false → 0 ≡ need_for p asks k c yea
-    need_clear d = ap (λ (b : Bool). 4 * bit_of b) (sym d) ∙ need_by
-
-abbrev pub fault_of : (need left : ℕ) → ℕ
-fault_of need left = cond (eqb need 4) (cond (eqb left 0) 4 0) need
-
-abbrev pub left_after : (need left : ℕ) → ℕ
-left_after need left = cond (eqb need 4) (left - 1) left
+pub taking_none : (left : ℕ) → taking 0 left ≡ given left
+taking_none left = rw (le-ltb left 0 (omega arith)) (ap given (sub-zero left))
 
 abbrev left_in : Book → ℕ
 left_in b = length b.list / 4 - b.listed
@@ -145,7 +98,7 @@ left_in b = length b.list / 4 - b.listed
 abbrev more : List ℕ → ℕ → List ℕ
 more seen c = set seen c (get_or seen c 0 + 1)
 
-module _ (asks : ℕ → Bool) (p : List ℕ) where
+module _ (asks : ℕ → Bool) (p : List Queue) where
   -- what is known of the open requests, where so many commands of each CID went before
   record Kept (pending : ℕ → List Request) (seen : List ℕ) : Type 0 where
     asked_more : (c : ℕ) → asks c ≡ true → length (pending c) ≡ length (pending_in p c) + get_or seen c 0
@@ -158,19 +111,22 @@ module _ (asks : ℕ → Bool) (p : List ℕ) where
     kept : Kept book.pending seen
     room : left ≡ left_in book
 
-  -- a command with this need is refused, or hands a book on
-  record Outcome (need : ℕ) (a : Answer Book) (seen : List ℕ) (left : ℕ) : Type 0 where
-    goes : fault_of need left ≡ 0 → On a seen (left_after need left)
-    stops : (fault_of need left ≡ 0 → ⊥) → a ≡ refused (fault_of need left)
+  -- a command hands a book on that has this room left, or is refused so
+  record Outcome (x : Answer ℕ) (a : Answer Book) (seen : List ℕ) : Type 0 where
+    goes : (left : ℕ) → x ≡ given left → On a seen left
+    stops : (k : ℕ) → x ≡ refused k → a ≡ refused k
 
-  outcome_none : {b : Book} {seen : List ℕ} {left : ℕ} → Kept b.pending seen → left ≡ left_in b → Outcome 0 (given b) seen left
-  outcome_none {b} k r = record { goes = λ e. record { book = b; is = refl; kept = k; room = r }; stops = λ e. absurd (e refl) }
+  outcome_none : {b : Book} {seen : List ℕ} (left : ℕ) → Kept b.pending seen → left ≡ left_in b → Outcome (given left) (given b) seen
+  outcome_none {b} left k r = record {
+    goes = λ m e. let same : left ≡ m = cc in record { book = b; is = refl; kept = k; room = sym same ∙ r };
+    stops = λ m e. cc;
+  }
 
-  outcome_full : {seen : List ℕ} {left : ℕ} → Outcome 17 (refused 17) seen left
-  outcome_full = record { goes = λ e. absurd (omega arith); stops = λ e. refl }
+  outcome_full : {seen : List ℕ} → Outcome (refused 17) (refused 17) seen
+  outcome_full = record { goes = λ m e. cc; stops = λ m e. let same : 17 ≡ m = cc in ap refused same }
 
-  outcome_due : (n : Note) (b : Book) {seen : List ℕ} {left : ℕ} → Kept b.pending seen → left ≡ left_in b → Outcome 4 (noted n b) seen left
-  outcome_due n b {seen} {left} k r = by (dec_lt 0 left)
+  outcome_due : (n : Note) (b : Book) {seen : List ℕ} (left : ℕ) → Kept b.pending seen → left ≡ left_in b → Outcome (taking 1 left) (noted n b) seen
+  outcome_due n b {seen} left k r = by (dec_lt 0 left)
     where
       written : List ℕ
       written = over b.list (4 * b.listed) (in_four n)
@@ -178,30 +134,25 @@ module _ (asks : ℕ → Bool) (p : List ℕ) where
       with_note : Book
       with_note = record { lines = b.lines; listed = b.listed + 1; pending = b.pending; held = b.held; list = written }
 
-      by : Dec (0 < left) → Outcome 4 (noted n b) seen left
+      by : Dec (0 < left) → Outcome (taking 1 left) (noted n b) seen
       by (no e) =
-          let f : fault_of 4 left ≡ 4 = rw (eq-eqb left 0 (omega arith)) in
+          let f : taking 1 left ≡ refused 4 = rw (lt-ltb left 1 (omega arith)) in
           let full : ltb b.listed (length b.list / 4) ≡ false = le-ltb b.listed (length b.list / 4) (omega arith) in
-          record { goes = λ z. absurd (omega arith); stops = λ z. rw (full, f) }
+          record { goes = λ m z. cc; stops = λ m z. let same : 4 ≡ m = cc in rw full (ap refused same) }
       by (yes e) =
-          let f : fault_of 4 left ≡ 0 = rw (ne_eqb left 0 (λ z. omega arith)) in
+          let f : taking 1 left ≡ given (left - 1) = rw (le-ltb left 1 (omega arith)) in
           let there : ltb b.listed (length b.list / 4) ≡ true = lt-ltb b.listed (length b.list / 4) (omega arith) in
           let same : length written ≡ length b.list = over_length b.list (4 * b.listed) (in_four n) (omega arith) in
           record {
-            goes = λ z. record { book = with_note; is = rw there; kept = k; room = omega (arith, ap (λ (m : ℕ). m / 4) same) };
-            stops = λ z. absurd (z f);
+            goes = λ m z. let one_less : left - 1 ≡ m = cc in
+                record { book = with_note; is = rw there; kept = k; room = omega (arith, ap (λ (i : ℕ). i / 4) same) };
+            stops = λ m z. cc;
           }
 
   -- of the last event
-  last_fault : {need : ℕ} {a : Answer Book} {seen : List ℕ} {left : ℕ} → Outcome need a seen left
-      → fault_in (onward a (λ b. given b)) ≡ fault_of need left
-  last_fault {need} {a} {seen} {left} o = by (dec_lt 0 (fault_of need left))
-    where
-      by : Dec (0 < fault_of need left) → fault_in (onward a (λ b. given b)) ≡ fault_of need left
-      by (yes h) = ap (λ (x : Answer Book). fault_in (onward x (λ b. given b))) (o.stops (λ e. omega arith))
-      by (no h) =
-          let z : fault_of need left ≡ 0 = omega arith in
-          ap (λ (x : Answer Book). fault_in (onward x (λ b. given b))) (o.goes z).is ∙ sym z
+  last_ended : (x : Answer ℕ) {a : Answer Book} {seen : List ℕ} → Outcome x a seen → ended x ≡ ended (onward a (λ b. given b))
+  last_ended (given left) o = sym (ap (λ (y : Answer Book). ended (onward y (λ b. given b))) (o.goes left refl).is)
+  last_ended (refused k) o = sym (ap (λ (y : Answer Book). ended (onward y (λ b. given b))) (o.stops k refl))
 
   -- one request more, or one answer
   kept_request : {pending : ℕ → List Request} {seen : List ℕ} (r : Request) → asks r.cid ≡ true → r.cid < length seen → Kept pending seen
@@ -250,44 +201,44 @@ module _ (asks : ℕ → Bool) (p : List ℕ) where
       same c true q = ap pending (sym (eqb-true d c q)) ∙ none_tail (pending d) e
       same c false q = refl
 
-  module _ (b : Book) {seen : List ℕ} {left : ℕ} (k : Kept b.pending seen) (r : left ≡ left_in b) where
+  module _ (b : Book) {seen : List ℕ} (left : ℕ) (k : Kept b.pending seen) (r : left ≡ left_in b) where
     request_outcome : (q : Request) → asks q.cid ≡ true → q.cid < length seen → (yea : Bool)
-        → Outcome (need_for p true (get_or seen q.cid 0) q.cid yea) (asked q b) (more seen q.cid) left
+        → Outcome (left_behind (pending_in p q.cid) true (get_or seen q.cid 0) q.cid yea left) (asked q b) (more seen q.cid)
     request_outcome q w h yea =
-        subst (λ (m : ℕ). Outcome (cond (ltb m 8) 0 17) (asked q b) (more seen q.cid) left) (k.asked_more q.cid w)
+        subst (λ (m : ℕ). Outcome (cond (ltb m 8) (given left) (refused 17)) (asked q b) (more seen q.cid)) (k.asked_more q.cid w)
         (by (ltb (length (b.pending q.cid)) 8))
       where
-        by : (t : Bool) → Outcome (cond t 0 17) (cond t (given (opening q.cid (b.pending q.cid ++ (q ∷ [])) b)) (refused 17))
-            (more seen q.cid) left
-        by true = outcome_none (kept_request q w h k) r
+        by : (t : Bool) → Outcome (cond t (given left) (refused 17)) (cond t (given (opening q.cid (b.pending q.cid ++ (q ∷ [])) b)) (refused 17))
+            (more seen q.cid)
+        by true = outcome_none left (kept_request q w h k) r
         by false = outcome_full
 
     answer_outcome : (a : Reply) → asks a.cid ≡ false → a.cid < length seen
-        → Outcome (need_for p false (get_or seen a.cid 0) a.cid a.agrees) (answering a (head? (b.pending a.cid)) b)
-        (more seen a.cid) left
+        → Outcome (left_behind (pending_in p a.cid) false (get_or seen a.cid 0) a.cid a.agrees left) (answering a (head? (b.pending a.cid)) b)
+        (more seen a.cid)
     answer_outcome a w h =
-        subst (λ (l : List Request). Outcome (due (head? l)) (answering a (head? (b.pending a.cid)) b) (more seen a.cid) left)
+        subst (λ (l : List Request). Outcome (due (head? l)) (answering a (head? (b.pending a.cid)) b) (more seen a.cid))
         (k.answered a.cid w)
         (by (head? (b.pending a.cid)) refl)
       where
-        due : Option Request → ℕ
-        due o = 4 * length (brought_by (reply_of a.cid a.agrees 0 0 0) o)
+        due : Option Request → Answer ℕ
+        due o = taking (length (brought_by (reply_of a.cid a.agrees 0 0 0) o)) left
 
         after : Book
         after = opening a.cid (tail (b.pending a.cid)) b
 
-        beyond_by : (q : Request) (t : Bool) → Outcome (4 * length (cond t (beyond q.at ∷ []) []))
-            (cond t (noted (beyond q.at) after) (given (takes_effect q after))) (more seen a.cid) left
-        beyond_by q true = outcome_due (beyond q.at) after (kept_answer a.cid w h k) r
-        beyond_by q false = outcome_none (kept_answer a.cid w h k) r
+        beyond_by : (q : Request) (t : Bool) → Outcome (taking (length (cond t (beyond q.at ∷ []) [])) left)
+            (cond t (noted (beyond q.at) after) (given (takes_effect q after))) (more seen a.cid)
+        beyond_by q true = outcome_due (beyond q.at) after left (kept_answer a.cid w h k) r
+        beyond_by q false = rw taking_none (outcome_none left (kept_answer a.cid w h k) r)
 
-        decided_by : (q : Request) (y : Bool) → Outcome (4 * length (cond (y && is_beyond q) (beyond q.at ∷ []) [])) (decided y q after)
-            (more seen a.cid) left
+        decided_by : (q : Request) (y : Bool) → Outcome (taking (length (cond (y && is_beyond q) (beyond q.at ∷ []) [])) left) (decided y q after)
+            (more seen a.cid)
         decided_by q true = beyond_by q (is_beyond q)
-        decided_by q false = outcome_none (kept_answer a.cid w h k) r
+        decided_by q false = rw taking_none (outcome_none left (kept_answer a.cid w h k) r)
 
-        by : (o : Option Request) → head? (b.pending a.cid) ≡ o → Outcome (due o) (answering a o b) (more seen a.cid) left
-        by none e = outcome_due (stray a.at) b (kept_stray a.cid w h e k) r
+        by : (o : Option Request) → head? (b.pending a.cid) ≡ o → Outcome (due o) (answering a o b) (more seen a.cid)
+        by none e = outcome_due (stray a.at) b left (kept_stray a.cid w h e k) r
         by (some q) e = decided_by q a.agrees
 
 -- ---- along a line
@@ -302,11 +253,11 @@ none_seen c = by (dec_lt c 16)
     by (yes h) = get_or-replicate 16 c 0 0 h
     by (no h) = get_or-eq_default unseen 0 {n = c} (omega arith)
 
-module _ (rules : Rules) (s p : List ℕ) (listed room : ℕ) where
+module _ (rules : Rules) (s : List ℕ) (p : List Queue) (listed room : ℕ) where
   -- the events from an offset on, in this book, are refused as all events are
-  record Stage (n f lines : ℕ) (h l : List ℕ) (at : ℕ) (seen : List ℕ) (left : ℕ) : Type 0 where
+  record Stage (n f lines : ℕ) (h : List Parents) (l : List ℕ) (at : ℕ) (seen : List ℕ) (left : ℕ) : Type 0 where
     book : Book
-    same : fault_in (steps (events_from rules n f s 0) (book_in lines listed p h l)) ≡ fault_in (steps (events_from rules n f s at) book)
+    same : ended (steps (events_from rules n f s 0) (book_in lines listed p h l)) ≡ ended (steps (events_from rules n f s at) book)
     kept : Kept (is_request rules) p book.pending seen
     left_is : left ≡ left_in book
 
@@ -315,7 +266,7 @@ module _ (rules : Rules) (s p : List ℕ) (listed room : ℕ) where
     pub within : at ≤ length s
     pub sixteen : length seen ≡ 16
     pub few : (c : ℕ) → get_or seen c 0 ≤ at
-    stage : (n f lines : ℕ) (h l : List ℕ) → length l / 4 ≡ room → Stage n f lines h l at seen left
+    stage : (n f lines : ℕ) (h : List Parents) (l : List ℕ) → length l / 4 ≡ room → Stage n f lines h l at seen left
 
   pub judged_none : {left : ℕ} → left ≡ room - listed → Judged 0 unseen left
   judged_none {left} e = record {
@@ -334,34 +285,34 @@ module _ (rules : Rules) (s p : List ℕ) (listed room : ℕ) where
   }
 
   module _ {at : ℕ} {seen : List ℕ} {left : ℕ} (j : Judged at seen left) where
-    pub judged_end : step_at (length_of rules) s at ≡ given ended → Judges rules s p listed room 0
+    pub judged_end : step_at (length_of rules) s at ≡ given ended_step → Judges rules s p listed room accepted
     unfolding steps
     judged_end e n f lines h l r =
         let t = j.stage n f lines h l r in
-        sym (t.same ∙ ap (λ (es : List Event). fault_in (steps es t.book)) (events_end rules n f s at j.within e))
+        sym (t.same ∙ ap (λ (es : List Event). ended (steps es t.book)) (events_end rules n f s at j.within e))
 
-    pub judged_never : {k : ℕ} → step_at (length_of rules) s at ≡ refused k → Judges rules s p listed room 0
+    pub judged_never : {k : ℕ} → step_at (length_of rules) s at ≡ refused k → Judges rules s p listed room accepted
     judged_never e = absurd (never_refused rules s at j.within e)
 
-    pub judged_stop : {k o fault : ℕ} → step_at (length_of rules) s at ≡ given (stopped_at k o) → fault ≡ fault_of 4 left
-        → Judges rules s p listed room fault
+    pub judged_stop : {k o : ℕ} {x : Answer ℕ} → step_at (length_of rules) s at ≡ given (stopped_at k o) → x ≡ taking 1 left
+        → Judges rules s p listed room (ended x)
     unfolding steps
-    judged_stop e y n f lines h l r =
+    judged_stop {x = x} e y n f lines h l r =
         let t = j.stage n f lines h l r in
-        let o = outcome_due (is_request rules) p (stopped (place n f at)) t.book t.kept t.left_is in
-        y
-        ∙ sym (t.same ∙ ap (λ (es : List Event). fault_in (steps es t.book)) (events_stop rules n f s at j.within e)
-        ∙ last_fault (is_request rules) p o)
+        let o = outcome_due (is_request rules) p (stopped (place n f at)) t.book left t.kept t.left_is in
+        ap ended y
+        ∙ last_ended (is_request rules) p (taking 1 left) o
+        ∙ sym (t.same ∙ ap (λ (es : List Event). ended (steps es t.book)) (events_stop rules n f s at j.within e))
 
     module _ {cid len next : ℕ} (e : step_at (length_of rules) s at ≡ given (command (heading cid len) next)) where
       abbrev payload : List ℕ
       payload = take len (drop (at + 1) s)
 
-      abbrev need : ℕ
-      need = need_for p (is_request rules cid) (get_or seen cid 0) cid (agrees_with cid payload)
+      abbrev behind : Answer ℕ
+      behind = left_behind (pending_in p cid) (is_request rules cid) (get_or seen cid 0) cid (agrees_with cid payload) left
 
       outcome : (n f : ℕ) (b : Book) → Kept (is_request rules) p b.pending seen → left ≡ left_in b
-          → Outcome (is_request rules) p need (step (event_of rules n f (placed at cid payload)) b) (more seen cid) left
+          → Outcome (is_request rules) p behind (step (event_of rules n f (placed at cid payload)) b) (more seen cid)
       outcome n f b k r = by (is_request rules cid) refl
         where
           low : cid < length seen
@@ -374,32 +325,32 @@ module _ (rules : Rules) (s p : List ℕ) (listed room : ℕ) where
           replying = record { at = place n f at; cid = cid; agrees = agrees_with cid payload }
 
           by : (t : Bool) → is_request rules cid ≡ t
-              → Outcome (is_request rules) p (need_for p t (get_or seen cid 0) cid (agrees_with cid payload))
-              (step (cond t (request asking) (reply replying)) b) (more seen cid) left
-          by true q = request_outcome (is_request rules) p b k r asking q low (agrees_with cid payload)
-          by false q = answer_outcome (is_request rules) p b k r replying q low
+              → Outcome (is_request rules) p (left_behind (pending_in p cid) t (get_or seen cid 0) cid (agrees_with cid payload) left)
+              (step (cond t (request asking) (reply replying)) b) (more seen cid)
+          by true q = request_outcome (is_request rules) p b left k r asking q low (agrees_with cid payload)
+          by false q = answer_outcome (is_request rules) p b left k r replying q low
 
-      fault_here : (fault_of need left ≡ 0 → ⊥) → Judges rules s p listed room (fault_of need left)
+      pub judged_fault : {k : ℕ} → refused k ≡ behind → Judges rules s p listed room (refused k)
       unfolding steps
-      fault_here z n f lines h l r =
+      judged_fault {k} z n f lines h l r =
           let t = j.stage n f lines h l r in
           let o = outcome n f t.book t.kept t.left_is in
-          sym (t.same ∙ ap (λ (es : List Event). fault_in (steps es t.book)) (events_command rules n f s at e)
-          ∙ ap (λ (x : Answer Book). fault_in (onward x (steps (events_from rules n f s next)))) (o.stops z))
+          sym (t.same ∙ ap (λ (es : List Event). ended (steps es t.book)) (events_command rules n f s at e)
+          ∙ ap (λ (x : Answer Book). ended (onward x (steps (events_from rules n f s next)))) (o.stops k (sym z)))
 
-      next_here : fault_of need left ≡ 0 → Judged next (more seen cid) (left_after need left)
+      pub judged_next : {after : ℕ} → given after ≡ behind → Judged next (more seen cid) after
       unfolding steps
-      next_here z = record {
+      judged_next {after} z = record {
         within = (stands rules s e).fits;
         sixteen = length-set seen cid (get_or seen cid 0 + 1) ∙ j.sixteen;
         few = λ c. few_by c (dec_lt c cid) (dec_lt cid c);
         stage = λ n f lines h l r.
             let t = j.stage n f lines h l r in
-            let o = (outcome n f t.book t.kept t.left_is).goes z in
+            let o = (outcome n f t.book t.kept t.left_is).goes after (sym z) in
             record {
               book = o.book;
-              same = t.same ∙ ap (λ (es : List Event). fault_in (steps es t.book)) (events_command rules n f s at e)
-                  ∙ ap (λ (x : Answer Book). fault_in (onward x (steps (events_from rules n f s next)))) o.is;
+              same = t.same ∙ ap (λ (es : List Event). ended (steps es t.book)) (events_command rules n f s at e)
+                  ∙ ap (λ (x : Answer Book). ended (onward x (steps (events_from rules n f s next)))) o.is;
               kept = o.kept;
               left_is = o.room;
             };
@@ -415,15 +366,3 @@ module _ (rules : Rules) (s p : List ℕ) (listed room : ℕ) where
               let c_is : c ≡ cid = omega arith in
               let low : cid < length seen = omega (arith, g.low, j.sixteen) in
               rw (c_is, get_or-set_same seen cid (get_or seen cid 0 + 1) 0 low) (omega (arith, j.few cid, g.behind))
-
-      -- the same for numbers in hand
-      module _ {m fault : ℕ} (x : m ≡ need) (y : fault ≡ fault_of m left) where
-        fault_need : fault ≡ fault_of need left
-        fault_need = y ∙ ap (λ (k : ℕ). fault_of k left) x
-
-        pub judged_fault : (fault ≡ 0 → ⊥) → Judges rules s p listed room fault
-        judged_fault z = subst (Judges rules s p listed room) (sym fault_need) (fault_here (λ e. z (fault_need ∙ e)))
-
-        pub judged_next : {after : ℕ} → fault ≡ 0 → after ≡ left_after m left → Judged next (more seen cid) after
-        judged_next z w =
-            subst (Judged next (more seen cid)) (sym (w ∙ ap (λ (k : ℕ). left_after k left) x)) (next_here (sym fault_need ∙ z))

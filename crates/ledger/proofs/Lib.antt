@@ -6,9 +6,7 @@ pub mod Judging
 pub mod LineByLine
 pub mod Matches
 pub mod MemoryAnswers
-pub mod MemoryHeld
-pub mod MemoryPending
-pub mod MemoryRooms
+pub mod MemoryQueues
 pub mod MemoryWritten
 pub mod Notes
 pub mod Parenting

@@ -9,7 +9,7 @@ use borrow.Author.Tests.{eqb-true, eqb-false, eq-eqb, ne_eqb, lt-ltb, le-ltb}
 use lib.Dec.{eqb, ltb}
 use lib.ListN.{get_or}
 use Rattle.fields.specs.Places.{number_at, octet}
-use Rattle.ledger.specs.Memory.{five_of, channel_row, row_of}
+use Rattle.ledger.specs.Memory.{five_of, request_of, channel_row, row_of}
 use Rattle.ledger.specs.Settings.{
   Setting,
   data_rate,
@@ -32,7 +32,8 @@ use Rattle.ledger.specs.Settings.{
   writes,
   is_beyond,
 }
-use Rattle.ledger.specs.Working.{made, row_written}
+use Rattle.ledger.specs.Working.{row_written}
+use Rattle.ledger.specs.declared.memory.Asked.{Asked}
 
 -- ---- the CIDs that write a row
 
@@ -90,26 +91,6 @@ writer_of limits i h = refl
 writer_of channel i h = let p = row-for 5 i h in cid_of_channel (row_for 5 i) (omega arith) (omega arith)
 writer_of downlink i h = let p = row-for 21 i h in cid_of_downlink (row_for 21 i) (omega arith)
 writer_of (other e₇ e₁₀ e) i h = let r = e i in absurd (omega arith)
-
-row_for_bound : (first i : ℕ) → first < 22 → row_for first i ≤ 38
-row_for_bound first i l = by (dec_lt i 16)
-  where
-    by : Dec (i < 16) → row_for first i ≤ 38
-    by (yes h) = rw (lt-ltb i 16 h) (omega arith)
-    by (no h) = let m : 16 ≤ i = omega arith in rw (le-ltb i 16 m) (omega arith)
-
-pub row_bound : (c i : ℕ) → row_written c i ≤ 38
-row_bound c i = by (known c)
-  where
-    by : {d : ℕ} → Known d → row_written d i ≤ 38
-    by adr = omega arith
-    by duty = omega arith
-    by windows = omega arith
-    by timing = omega arith
-    by limits = omega arith
-    by channel = row_for_bound 5 i (omega arith)
-    by downlink = row_for_bound 21 i (omega arith)
-    by (other e₇ e₁₀ e) = omega (arith, e i)
 
 -- ---- the settings
 
@@ -241,37 +222,37 @@ writer_writes (channel_frequency k) i e = row_for_not 5 i (omega arith) e
 writer_writes (channel_rates k) i e = row_for_not 5 i (omega arith) e
 writer_writes (downlink_frequency k) i e = row_for_not 21 i (omega arith) e
 
--- ---- a request with these numbers
+-- ---- a request
 
-module _ (c n f o b : ℕ) where
+module _ (c : ℕ) (r : Asked) where
   -- that writes a row writes the settings of that row
-  pub writes_row : row_written c (b % 256) < 37 → (σ : Setting) → writes (made c n f o b) σ ≡ eqb (row_written c (b % 256)) (row_of σ)
+  pub writes_row : row_written c (r.payload % 256) < 37 → (σ : Setting) → writes (request_of c r) σ ≡ eqb (row_written c (r.payload % 256)) (row_of σ)
   writes_row h σ = by (eqb c (writer σ).cid) refl
     where
-      by : (t : Bool) → eqb c (writer σ).cid ≡ t → (t && is_for σ (five_of b)) ≡ eqb (row_written c (b % 256)) (row_of σ)
-      by true e = for_row σ b ∙ ap (λ (d : ℕ). eqb (row_written d (b % 256)) (row_of σ)) (sym (eqb-true c (writer σ).cid e))
+      by : (t : Bool) → eqb c (writer σ).cid ≡ t → (t && is_for σ (five_of r.payload)) ≡ eqb (row_written c (r.payload % 256)) (row_of σ)
+      by true e = for_row σ r.payload ∙ ap (λ (d : ℕ). eqb (row_written d (r.payload % 256)) (row_of σ)) (sym (eqb-true c (writer σ).cid e))
       by false e =
-          sym (ne_eqb (row_written c (b % 256)) (row_of σ) (λ q.
-          eqb-false c (writer σ).cid e (sym (writer_of (known c) (b % 256) h) ∙ ap cid_of q ∙ cid_of_row σ (subst (λ (r : ℕ). r < 37) q h))))
+          sym (ne_eqb (row_written c (r.payload % 256)) (row_of σ) (λ q.
+          eqb-false c (writer σ).cid e (sym (writer_of (known c) (r.payload % 256) h) ∙ ap cid_of q ∙ cid_of_row σ (subst (λ (k : ℕ). k < 37) q h))))
 
   -- that writes none writes no setting
-  pub writes_none : row_written c (b % 256) ≡ 37 → (σ : Setting) → writes (made c n f o b) σ ≡ false
+  pub writes_none : row_written c (r.payload % 256) ≡ 37 → (σ : Setting) → writes (request_of c r) σ ≡ false
   writes_none h σ = by (eqb c (writer σ).cid) refl
     where
-      by : (t : Bool) → eqb c (writer σ).cid ≡ t → (t && is_for σ (five_of b)) ≡ false
-      by true e = absurd (writer_writes σ (b % 256) (ap (λ (d : ℕ). row_written d (b % 256)) (sym (eqb-true c (writer σ).cid e)) ∙ h))
+      by : (t : Bool) → eqb c (writer σ).cid ≡ t → (t && is_for σ (five_of r.payload)) ≡ false
+      by true e = absurd (writer_writes σ (r.payload % 256) (ap (λ (d : ℕ). row_written d (r.payload % 256)) (sym (eqb-true c (writer σ).cid e)) ∙ h))
       by false e = refl
 
-  pub beyond_row : is_beyond (made c n f o b) ≡ eqb (row_written c (b % 256)) 38
+  pub beyond_row : is_beyond (request_of c r) ≡ eqb (row_written c (r.payload % 256)) 38
   beyond_row = by (known c)
     where
-      by : {d : ℕ} → Known d → is_beyond (made d n f o b) ≡ eqb (row_written d (b % 256)) 38
+      by : {d : ℕ} → Known d → is_beyond (request_of d r) ≡ eqb (row_written d (r.payload % 256)) 38
       by adr = refl
       by duty = refl
       by windows = refl
       by timing = refl
       by limits = refl
-      by channel = or_false (ltb 15 (named b)) ∙ past_in 5 b (omega arith)
-      by downlink = past_in 21 b (omega arith)
+      by channel = or_false (ltb 15 (named r.payload)) ∙ past_in 5 r.payload (omega arith)
+      by downlink = past_in 21 r.payload (omega arith)
       by (other e₇ e₁₀ e) =
-          ap₂ (λ (s t : Bool). (s && ltb 15 (named b)) || (t && ltb 15 (named b))) e₇ e₁₀ ∙ ap (λ (r : ℕ). eqb r 38) (sym (e (b % 256)))
+          ap₂ (λ (s t : Bool). (s && ltb 15 (named r.payload)) || (t && ltb 15 (named r.payload))) e₇ e₁₀ ∙ ap (λ (k : ℕ). eqb k 38) (sym (e (r.payload % 256)))

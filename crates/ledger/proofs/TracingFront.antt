@@ -7,7 +7,7 @@ use mathlib.Core.Option.{Option, none, some}
 use mathlib.Core.Path.{◌≡◌, refl, sym, ap, ap₂, ◌∙◌, subst}
 use native.Mathlib.Omega.{arith}
 use lib.Dec.{eqb, ltb}
-use lib.ListN.{length, take, drop, length-append, length-drop}
+use lib.ListN.{length, drop, length-append, length-drop}
 use lib.Seq.{drop-append_seam, drop-append-add, drop_at, drop-drop}
 use borrow.Author.Tests.{eqb-true, eqb-false, ne_eqb, ltb-true, lt-ltb, le-ltb}
 use Rattle.bits.specs.Bits.{Byte}
@@ -20,8 +20,9 @@ use Rattle.text.specs.Hex.{hex_digit, hex_byte, hex_of, hex_field, bytes_of, Hex
 use Rattle.text.proofs.Decimals.{value_decimal, decimal_numeral, numeral_spelled}
 use Rattle.text.proofs.Hexes.{hex_pairs, hex_back, hex_long, pairs_spelled}
 use Rattle.text.proofs.Lines.{head_is}
-use Rattle.ledger.specs.Lines.{digit_in, digits_in, number_in, direction_in, heading_in, nibble, pairs_in, closed, paired, field_in, from, field_told}
+use Rattle.ledger.specs.Lines.{digit_in, digits_in, number_in, direction_in, heading_in, nibble, pairs_in, closed, paired, field_in, from, field_told, line_told}
 use Rattle.ledger.specs.declared.lines.Field.{Field}
+use Rattle.std.specs.Prelude.{Some}
 use Rattle.ledger.specs.Trace.{TraceLine, Lawful, written, begins, front, BeginsWith}
 use Rattle.ledger.specs.Working.{with_next, front_at}
 use Rattle.ledger.proofs.Tracing.{written_parts, begins_rest, front_written, front_read, both, taken}
@@ -80,7 +81,7 @@ numeral_back (c ∷ []) t h g = by (eqb c 48) (digits_back 0 (c ∷ []) t (h, tt
 numeral_back (c ∷ d ∷ s) t h g = rw (ne_eqb c 48 h.1) (digits_back 0 (c ∷ d ∷ s) t h.0 g)
 
 heading_back : (x : Direction) (t : List ℕ) → heading_in (9 ∷ (ascii (letter_of x) ++ (9 ∷ t))) ≡ some x
-unfolding heading_in ascii
+unfolding ascii
 heading_back Down t = refl
 heading_back Up t = refl
 
@@ -251,7 +252,6 @@ letter_found d x e = by (eqb d 68) (eqb d 85) refl refl e
     by false false f g e = let no_way : ◌≡◌ {A = ℕ} 0 1 = cc in absurd (omega arith)
 
 heading_found : (t : List ℕ) (x : Direction) → heading_in t ≡ some x → t ≡ 9 ∷ (ascii (letter_of x) ++ (9 ∷ drop 3 t))
-unfolding heading_in
 heading_found [] x e = let no_way : ◌≡◌ {A = ℕ} 0 1 = cc in absurd (omega arith)
 heading_found (c ∷ []) x e = let no_way : ◌≡◌ {A = ℕ} 0 1 = cc in absurd (omega arith)
 heading_found (c ∷ d ∷ []) x e = let no_way : ◌≡◌ {A = ℕ} 0 1 = cc in absurd (omega arith)
@@ -413,11 +413,11 @@ abbrev with_field : ℕ → Direction → Option (List ℕ × ℕ) → Option (T
 with_field v x none = none
 with_field v x (some p) = some (record { frame = v; direction = x; stream = p.0 }, p.1)
 
-field_line : (ok : Bool) (v : ℕ) (x : Direction) (s : List ℕ) (next : ℕ)
-    → cond {A = Option (TraceLine × ℕ)} ok (some (record { frame = v; direction = x; stream = s }, next)) none
-    ≡ with_field v x (cond ok (some (s, next)) none)
-field_line true v x s next = refl
-field_line false v x s next = refl
+pub line_no_number : (t : List ℕ) (at : ℕ) → length (number_in (drop at t)) ≡ 0 → front_at t at ≡ none
+line_no_number t at z =
+    let d : List ℕ = number_in (drop at t) in
+    let o : Option (TraceLine × ℕ) = parts d (heading_in (drop (length d) (drop at t))) (field_in (drop (length d + 3) (drop at t))) in
+    front_is t at ∙ ap (λ (n : ℕ). moved at (cond (ltb 0 n && ltb (value_of d) 4_294_967_296) o none)) z
 
 module _ (t : List ℕ) (at : ℕ) {v a : ℕ} (means : v ≡ value_of (number_in (drop at t))) (there : a ≡ at + length (number_in (drop at t))) where
   abbrev d : List ℕ
@@ -425,11 +425,6 @@ module _ (t : List ℕ) (at : ℕ) {v a : ℕ} (means : v ≡ value_of (number_i
 
   abbrev o : Option (TraceLine × ℕ)
   o = parts d (heading_in (drop (length d) (drop at t))) (field_in (drop (length d + 3) (drop at t)))
-
-  pub line_no_number : a ≡ at → front_at t at ≡ none
-  line_no_number e =
-      let z : length d ≡ 0 = omega arith in
-      front_is t at ∙ ap (λ (n : ℕ). moved at (cond (ltb 0 n && ltb (value_of d) 4_294_967_296) o none)) z
 
   pub line_large : 4_294_967_295 < v → front_at t at ≡ none
   line_large h = front_is t at ∙ ap (moved at) (by (ltb 0 (length d)))
@@ -469,7 +464,11 @@ module _ (t : List ℕ) (at : ℕ) {v a : ℕ} (means : v ≡ value_of (number_i
           let k : at + (length d + 3 + p.1) ≡ a + 3 + p.1 = omega arith in
           ap₂ (λ (w n : ℕ). some (record { frame = w; direction = x; stream = p.0 }, n)) (sym means) k
 
-  pub line_told : {x : Direction} → (a ≡ at → ⊥) → v ≤ 4_294_967_295 → heading_in (drop a t) ≡ some x → (r : Field) (b : List ℕ)
-      → field_told r b ≡ from (a + 3) (field_in (drop (a + 3) t))
-      → cond {A = Option (TraceLine × ℕ)} r.ok (some (record { frame = v; direction = x; stream = take r.len b }, r.next)) none ≡ front_at t at
-  line_told {x} n h e r b f = field_line r.ok v x (take r.len b) r.next ∙ ap (with_field v x) f ∙ sym (line_parts n h e)
+  pub line_with_field : {x : Direction} → (a ≡ at → ⊥) → v ≤ 4_294_967_295 → heading_in (drop a t) ≡ some x → (f : Field) (b : List ℕ)
+      → field_told (Some f) b ≡ from (a + 3) (field_in (drop (a + 3) t))
+      → line_told (Some (record { frame = v; direction = x; len = f.len; next = f.next })) b ≡ front_at t at
+  line_with_field {x} n h e f b told = ap (with_field v x) told ∙ sym (line_parts n h e)
+
+  pub line_no_field : {x : Direction} → (a ≡ at → ⊥) → v ≤ 4_294_967_295 → heading_in (drop a t) ≡ some x
+      → none ≡ from (a + 3) (field_in (drop (a + 3) t)) → none ≡ front_at t at
+  line_no_field {x} n h e told = ap (with_field v x) told ∙ sym (line_parts n h e)

@@ -3,7 +3,7 @@ use Prim.Native.Nat.{ℕ, zero, suc, ◌+◌, ◌-◌, ◌*◌, ◌/◌, ◌<◌
 use mathlib.Core.Bool.{Bool, true, false, cond, ◌&&◌}
 use mathlib.Core.List.{List, [], ◌∷◌, ◌++◌, append-nil}
 use mathlib.Core.Logic.{inl, inr}
-use mathlib.Core.Option.{Option, none, some}
+use mathlib.Core.Option.{none, some}
 use mathlib.Core.Path.{◌≡◌, refl, sym, ap, ap₂, ◌∙◌}
 use native.Mathlib.Numerals.{add-one}
 use native.Mathlib.Omega.{arith}
@@ -18,6 +18,7 @@ use Rattle.ledger.specs.Lines.{
   digit_in,
   digits_in,
   number_in,
+  numbered,
   direction_in,
   heading_in,
   nibble,
@@ -32,6 +33,7 @@ use Rattle.ledger.specs.Lines.{
 }
 use Rattle.ledger.specs.Trace.{begins}
 use Rattle.ledger.specs.declared.lines.Field.{Field}
+use Rattle.std.specs.Prelude.{Option as Maybe, None, Some}
 
 -- the character at an offset, and what is behind it
 pub one_at : (t : List ℕ) (i : ℕ) → i < length t → drop i t ≡ get_or t i 0 ∷ drop (i + 1) t
@@ -142,6 +144,23 @@ module _ (t : List ℕ) (at : ℕ) where
   number_zero h e =
       let z : number_in (drop at t) ≡ 48 ∷ [] = rw (one_at t at h, eq-eqb (get_or t at 0) 48 e, e) in
       record { means = ap value_of (sym z); there = omega (arith, ap length z) }
+
+-- what is known of a number that there is, and where there is none
+pub record Numbered (v a at : ℕ) (d : List ℕ) : Type 0 where
+  pub means : v ≡ value_of d
+  pub there : a ≡ at + length d
+  pub some : a ≡ at → ⊥
+
+pub is_numbered : (v a at : ℕ) (d : List ℕ) → some (v, a) ≡ numbered at d → Numbered v a at d
+is_numbered v a at [] e = cc
+is_numbered v a at (c ∷ s) e =
+    let pair : ◌≡◌ {A = ℕ × ℕ} (v, a) (value_of (c ∷ s), at + length (c ∷ s)) = cc in
+    let there : a ≡ at + length (c ∷ s) = ap (λ (x : ℕ × ℕ). x.1) pair in
+    record { means = ap (λ (x : ℕ × ℕ). x.0) pair; there = there; some = λ z. omega arith }
+
+pub not_numbered : (at : ℕ) (d : List ℕ) → none ≡ numbered at d → length d ≡ 0
+not_numbered at [] e = refl
+not_numbered at (c ∷ s) e = cc
 
 -- ---- the pairs
 
@@ -321,11 +340,9 @@ three_at : (t : List ℕ) (i : ℕ) → 3 ≤ length t - i → drop i t ≡ get_
 three_at t i h = two_at t i (omega arith) ∙ ap (λ (s : List ℕ). get_or t i 0 ∷ get_or t (i + 1) 0 ∷ s) (one_at t (i + 2) (omega arith))
 
 headed : (c d e : ℕ) (t : List ℕ) → heading_in (c ∷ d ∷ e ∷ t) ≡ cond (eqb c 9 && eqb e 9) (direction_in d) none
-unfolding heading_in
 headed c d e t = refl
 
 heading_few : (t : List ℕ) → length t < 3 → heading_in t ≡ none
-unfolding heading_in
 heading_few [] h = refl
 heading_few (c ∷ []) h = refl
 heading_few (c ∷ d ∷ []) h = refl
@@ -369,15 +386,14 @@ module _ (t : List ℕ) (end n : ℕ) where
   closed_newline h e = rw (closed_some t end h, eq-eqb 10 (get_or t end 0) (sym e))
 
 -- as many bytes of the memory as are told
-told_closed : (ok : Bool) (len next : ℕ) (q : Bool) (n end : ℕ) (b s : List ℕ)
-    → cond {A = Option (ℕ × ℕ)} ok (some (len, next)) none ≡ cond q (some (n, end + 1)) none
-    → take n b ≡ s → cond {A = Option (List ℕ × ℕ)} ok (some (take len b, next)) none ≡ cond q (some (s, end + 1)) none
-told_closed true len next true n end b s e f =
-    let pair : ◌≡◌ {A = ℕ × ℕ} (len, next) (n, end + 1) = cc in
+told_closed : (r : Maybe Field) (q : Bool) (n end : ℕ) (b s : List ℕ) → closed_told r ≡ cond q (some (n, end + 1)) none
+    → take n b ≡ s → field_told r b ≡ cond q (some (s, end + 1)) none
+told_closed (Some r) true n end b s e f =
+    let pair : ◌≡◌ {A = ℕ × ℕ} (r.len, r.next) (n, end + 1) = cc in
     ap₂ (λ (l : List ℕ) (k : ℕ). some (l, k)) (ap (λ (x : ℕ × ℕ). take x.0 b) pair ∙ f) (ap (λ (x : ℕ × ℕ). x.1) pair)
-told_closed true len next false n end b s e f = let no_way : ◌≡◌ {A = ℕ} 0 1 = cc in absurd (omega arith)
-told_closed false len next true n end b s e f = let no_way : ◌≡◌ {A = ℕ} 0 1 = cc in absurd (omega arith)
-told_closed false len next false n end b s e f = refl
+told_closed (Some r) false n end b s e f = cc
+told_closed None true n end b s e f = cc
+told_closed None false n end b s e f = refl
 
 from_closed : (t s : List ℕ) (at k : ℕ) → from at (closed s k (drop at t)) ≡ cond (begins (10 ∷ []) (drop (at + k) t)) (some (s, at + k + 1)) none
 from_closed t s at k = rw (drop-drop k at t) (by (begins (10 ∷ []) (drop (at + k) t)))
@@ -421,12 +437,12 @@ module _ (t : List ℕ) (at : ℕ) where
   unfolding field_in
   field_end h = rw (drop_of_length-le t h)
 
-  pub field_dash : at < length t → get_or t at 0 ≡ 45 → (r : Field) (b : List ℕ) → closed_told r ≡ closed_at t (at + 1) 0
+  pub field_dash : at < length t → get_or t at 0 ≡ 45 → (r : Maybe Field) (b : List ℕ) → closed_told r ≡ closed_at t (at + 1) 0
       → field_told r b ≡ from at (field_in (drop at t))
   unfolding field_in
   field_dash h e r b told =
       let dash : field_in (drop at t) ≡ closed [] 1 (drop at t) = rw (one_at t at h, eq-eqb (get_or t at 0) 45 e) in
-      told_closed r.ok r.len r.next (begins (10 ∷ []) (drop (at + 1) t)) 0 (at + 1) b [] told refl
+      told_closed r (begins (10 ∷ []) (drop (at + 1) t)) 0 (at + 1) b [] told refl
       ∙ sym (ap (from at) dash ∙ from_closed t [] at 1)
 
   field_is : at < length t → (get_or t at 0 ≡ 45 → ⊥) → field_in (drop at t) ≡ paired (pairs_in 255 (drop at t)) (drop at t)
@@ -437,11 +453,11 @@ module _ (t : List ℕ) (at : ℕ) where
   field_nothing h n e = ap (from at) (field_is h n ∙ paired_nil (pairs_in 255 (drop at t)) (drop at t) e)
 
   pub field_bytes : at < length t → (get_or t at 0 ≡ 45 → ⊥) → {n : ℕ} (b : List ℕ) → n ≡ length (pairs_in 255 (drop at t))
-      → take n b ≡ pairs_in 255 (drop at t) → (n ≡ 0 → ⊥) → (r : Field) → closed_told r ≡ closed_at t (at + 2 * n) n → field_told r b ≡ from at (field_in (drop at t))
+      → take n b ≡ pairs_in 255 (drop at t) → (n ≡ 0 → ⊥) → (r : Maybe Field) → closed_told r ≡ closed_at t (at + 2 * n) n → field_told r b ≡ from at (field_in (drop at t))
   field_bytes h d {n} b e f z r told =
       let s : List ℕ = pairs_in 255 (drop at t) in
       let size : 2 * n ≡ 2 * length s = omega arith in
-      told_closed r.ok r.len r.next (begins (10 ∷ []) (drop (at + 2 * n) t)) n (at + 2 * n) b s told f
+      told_closed r (begins (10 ∷ []) (drop (at + 2 * n) t)) n (at + 2 * n) b s told f
       ∙ sym
       (ap (from at) (field_is h d ∙ paired_some s (drop at t) (omega arith) ∙ ap (λ (k : ℕ). closed s k (drop at t)) (sym size))
       ∙ from_closed t s at (2 * n))

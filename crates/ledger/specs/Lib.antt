@@ -8,5 +8,6 @@ pub mod Memory
 pub mod Parents
 pub mod Rows
 pub mod Settings
+pub mod Told
 pub mod Trace
 pub mod Working

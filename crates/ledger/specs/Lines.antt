@@ -1,10 +1,11 @@
 -- Not for the auditor: only private functions cite this. A line of a trace as the code reads it: character by character, from the front on.
-use Rattle.std.specs.Prelude.{ℕ, zero, suc, ◌+◌, ◌-◌, ◌*◌, cond, ◌&&◌, List, [], ◌∷◌, eqb, ltb, length, take, drop}
+use Rattle.std.specs.Prelude.{ℕ, zero, suc, ◌+◌, ◌-◌, ◌*◌, cond, ◌&&◌, List, [], ◌∷◌, eqb, ltb, length, take, drop, Option as Maybe, None, Some}
 use Rattle.std.proofs.Math.Option.{Option, none, some}
 use Rattle.table.specs.declared.rules.Direction.{Direction}
 use Rattle.table.specs.declared.rules.Direction.TheVariants.{Down, Up}
+use Rattle.text.specs.Decimal.{value_of}
 use Rattle.ledger.specs.Trace.{TraceLine, begins}
-use Rattle.ledger.specs.declared.lines.Heading.{Heading}
+use Rattle.ledger.specs.declared.lines.Number.{Number}
 use Rattle.ledger.specs.declared.lines.Field.{Field}
 use Rattle.ledger.specs.declared.lines.LineAt.{LineAt}
 
@@ -29,7 +30,7 @@ number_in (c ∷ t) = cond (eqb c 48) (c ∷ []) (digits_in 0 (c ∷ t))
 abbrev pub direction_in : ℕ → Option Direction
 direction_in c = cond (eqb c 68) (some Down) (cond (eqb c 85) (some Up) none)
 
-unfoldable pub heading_in : List ℕ → Option Direction
+abbrev pub heading_in : List ℕ → Option Direction
 heading_in [] = none
 heading_in (c ∷ []) = none
 heading_in (c ∷ d ∷ []) = none
@@ -61,10 +62,28 @@ unfoldable pub field_in : List ℕ → Option (List ℕ × ℕ)
 field_in [] = none
 field_in (c ∷ t) = cond (eqb c 45) (closed [] 1 (c ∷ t)) (paired (pairs_in 255 (c ∷ t)) (c ∷ t))
 
--- ---- what the code's structs say
+-- ---- what the code's answers say
 
-abbrev pub heading_told : Heading → Option Direction
-heading_told r = cond r.ok (some r.direction) none
+abbrev pub known : {A : Type 0} → Maybe A → Option A
+known None = none
+known (Some x) = some x
+
+abbrev pub digit_told : Maybe ℕ → ℕ
+digit_told None = 10
+digit_told (Some d) = d
+
+abbrev pub hex_told : Maybe ℕ → ℕ
+hex_told None = 16
+hex_told (Some h) = h
+
+abbrev pub number_told : Maybe Number → Option (ℕ × ℕ)
+number_told None = none
+number_told (Some n) = some (n.value, n.next)
+
+-- digits from an offset on as a number, and the offset behind them
+abbrev pub numbered : ℕ → List ℕ → Option (ℕ × ℕ)
+numbered at [] = none
+numbered at (c ∷ s) = some (value_of (c ∷ s), at + length (c ∷ s))
 
 -- its place in the text
 abbrev pub from : ℕ → Option (List ℕ × ℕ) → Option (List ℕ × ℕ)
@@ -75,11 +94,14 @@ from at (some p) = some (p.0, at + p.1)
 abbrev pub closed_at : List ℕ → (end len : ℕ) → Option (ℕ × ℕ)
 closed_at t end n = cond (begins (10 ∷ []) (drop end t)) (some (n, end + 1)) none
 
-abbrev pub closed_told : Field → Option (ℕ × ℕ)
-closed_told r = cond r.ok (some (r.len, r.next)) none
+abbrev pub closed_told : Maybe Field → Option (ℕ × ℕ)
+closed_told None = none
+closed_told (Some f) = some (f.len, f.next)
 
-abbrev pub field_told : Field → List ℕ → Option (List ℕ × ℕ)
-field_told r buffer = cond r.ok (some (take r.len buffer, r.next)) none
+abbrev pub field_told : Maybe Field → List ℕ → Option (List ℕ × ℕ)
+field_told None buffer = none
+field_told (Some f) buffer = some (take f.len buffer, f.next)
 
-abbrev pub line_told : LineAt → List ℕ → Option (TraceLine × ℕ)
-line_told r buffer = cond r.ok (some (record { frame = r.frame; direction = r.direction; stream = take r.len buffer }, r.next)) none
+abbrev pub line_told : Maybe LineAt → List ℕ → Option (TraceLine × ℕ)
+line_told None buffer = none
+line_told (Some l) buffer = some (record { frame = l.frame; direction = l.direction; stream = take l.len buffer }, l.next)

@@ -1,8 +1,7 @@
--- What a ledger's numbers mean. A request has four: line, frame, offset, and its payload as one number, the low byte first.
-use Rattle.std.specs.Prelude.{ℕ, ◌+◌, ◌*◌, ◌/◌, ◌%◌, cond, List, [], ◌∷◌, ltb, length, get_or}
-use Rattle.fields.specs.Lists.{tabulate}
+-- What a ledger's memory means.
+use Rattle.std.specs.Prelude.{ℕ, ◌+◌, ◌*◌, ◌/◌, ◌%◌, cond, List, [], ◌∷◌, map, ltb, length, get_or, take, replicate, Option as Maybe, None, Some}
 use Rattle.ledger.specs.Book.{Book}
-use Rattle.ledger.specs.Events.{Request}
+use Rattle.ledger.specs.Events.{Request, place}
 use Rattle.ledger.specs.Parents.{Note}
 use Rattle.ledger.specs.Settings.{
   Setting,
@@ -24,25 +23,54 @@ use Rattle.ledger.specs.Settings.{
   writer,
 }
 use Rattle.ledger.specs.declared.Ledger.{Ledger}
+use Rattle.ledger.specs.declared.memory.Asked.{Asked}
+use Rattle.ledger.specs.declared.memory.Queue.{Queue}
+use Rattle.ledger.specs.declared.memory.Parents.{Parents}
 
 -- the five low bytes of a number, the lowest first
 abbrev pub five_of : ℕ → List ℕ
 five_of n = n % 256 ∷ n / 256 % 256 ∷ n / 65_536 % 256 ∷ n / 16_777_216 % 256 ∷ n / 4_294_967_296 % 256 ∷ []
 
--- the request with this CID at place i
-abbrev pub request_at : (cid : ℕ) → List ℕ → (i : ℕ) → Request
-request_at c w i = record {
-  at = record { line = get_or w i 0; frame = get_or w (i + 1) 0; offset = get_or w (i + 2) 0 };
-  cid = c;
-  body = five_of (get_or w (i + 3) 0);
-}
+-- a request with this CID, whose payload is kept as one number, the low byte first
+abbrev pub request_of : (cid : ℕ) → Asked → Request
+request_of c r = record { at = place r.at.line r.at.frame r.at.offset; cid = c; body = five_of r.payload }
 
 abbrev pub at_most : ℕ → ℕ → ℕ
 at_most m n = cond (ltb n m) n m
 
--- the open requests of a CID: it has room for eight, and how many there are stands behind the room of all sixteen
-abbrev pub pending_in : List ℕ → ℕ → List Request
-pending_in w c = tabulate (at_most 8 (get_or w (512 + c) 0)) (λ i. request_at c w (32 * c + 4 * i))
+-- ---- the open requests of a CID, the earliest first: there is room for eight
+
+abbrev pub open_in : Queue → List Asked
+open_in q = take (at_most 8 q.count) q.requests
+
+abbrev pub open_requests : (cid : ℕ) → Queue → List Request
+open_requests c q = map (request_of c) (open_in q)
+
+abbrev pub no_request : Asked
+no_request = record { at = record { line = 0; frame = 0; offset = 0 }; payload = 0 }
+
+abbrev pub fresh_queue : Queue
+fresh_queue = record { requests = replicate 8 no_request; count = 0 }
+
+-- where no CID has a queue
+abbrev pub no_queue : Queue
+no_queue = record { requests = []; count = 0 }
+
+abbrev pub pending_in : List Queue → ℕ → List Request
+pending_in w c = open_requests c (get_or w c no_queue)
+
+-- ---- the last two parents of a row, the last first
+
+abbrev pub kept : (last before : Maybe Asked) → List Asked
+kept None q = []
+kept (Some r) None = r ∷ []
+kept (Some r) (Some q) = r ∷ q ∷ []
+
+abbrev pub parents_in : Parents → List Asked
+parents_in p = kept p.last p.before
+
+abbrev pub no_parents : Parents
+no_parents = record { last = None; before = None }
 
 -- a setting's row; settings that one request writes share one, and there are 37
 abbrev pub channel_row : ℕ → ℕ → ℕ
@@ -65,11 +93,10 @@ row_of (channel_frequency i) = channel_row 5 i
 row_of (channel_rates i) = channel_row 5 i
 row_of (downlink_frequency i) = channel_row 21 i
 
--- the last two parents: a row has room for two, and how many there are stands behind all rows
-abbrev pub row_in : List ℕ → (cid row : ℕ) → List Request
-row_in w c p = tabulate (at_most 2 (get_or w (296 + p) 0)) (λ i. request_at c w (8 * p + 4 * i))
+abbrev pub row_in : List Parents → (cid row : ℕ) → List Request
+row_in w c p = map (request_of c) (parents_in (get_or w p no_parents))
 
-abbrev pub held_in : List ℕ → Setting → List Request
+abbrev pub held_in : List Parents → Setting → List Request
 held_in w σ = row_in w (writer σ).cid (row_of σ)
 
 -- a ledger and the list that is lent with it

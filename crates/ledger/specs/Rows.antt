@@ -1,6 +1,6 @@
--- Not for the auditor: only private functions cite this. A row of a ledger's numbers, and what is answered of it.
-use Rattle.std.specs.Prelude.{ℕ, ◌+◌, ◌*◌, true, cond, ◌&&◌, List, eqb, ltb, get_or}
-use Rattle.std.proofs.Math.Option.{none}
+-- Not for the auditor: only private functions cite this. A row of a ledger's settings.
+use Rattle.std.specs.Prelude.{List, [], Option, None, Some}
+use Rattle.ledger.specs.Memory.{parents_in}
 use Rattle.ledger.specs.Settings.{
   Setting,
   data_rate,
@@ -19,8 +19,8 @@ use Rattle.ledger.specs.Settings.{
   channel_rates,
   downlink_frequency,
 }
-use Rattle.ledger.specs.declared.settings.Held.{Held}
-use Rattle.ledger.specs.declared.settings.Row.{Row}
+use Rattle.ledger.specs.declared.memory.Asked.{Asked}
+use Rattle.ledger.specs.declared.memory.Parents.{Parents}
 use Rattle.ledger.specs.declared.settings.Which.{Which}
 use Rattle.ledger.specs.declared.settings.Which.TheVariants.{
   DataRate,
@@ -39,7 +39,6 @@ use Rattle.ledger.specs.declared.settings.Which.TheVariants.{
   ChannelRates,
   DownlinkFrequency,
 }
-use Rattle.ledger.specs.Asked.{in_hand}
 
 -- the setting that is asked for
 abbrev pub setting_of : Which → Setting
@@ -59,20 +58,7 @@ setting_of (ChannelFrequency i) = channel_frequency i
 setting_of (ChannelRates i) = channel_rates i
 setting_of (DownlinkFrequency i) = downlink_frequency i
 
--- a row's numbers: how many parents it has, where the last stands, and the payloads of the last and of the one before it
-abbrev pub row_at : List ℕ → (row : ℕ) → Row
-row_at w p = record {
-  count = get_or w (296 + p) 0;
-  line = get_or w (8 * p) 0;
-  frame = get_or w (8 * p + 1) 0;
-  offset = get_or w (8 * p + 2) 0;
-  last = get_or w (8 * p + 3) 0;
-  before = get_or w (8 * p + 7) 0;
-}
-
--- what is answered of a row whose last parent says x, and the one before it y
-abbrev pub answered : Row → (x y : ℕ) → Held
-answered r x y =
-    cond (ltb 0 r.count)
-    (record { known = true; line = r.line; frame = r.frame; offset = r.offset; value = x; unchanged = ltb 1 r.count && eqb x y })
-    (in_hand none)
+-- the parents that there are
+abbrev pub parents_told : Option Parents → List Asked
+parents_told None = []
+parents_told (Some p) = parents_in p

@@ -1,22 +1,16 @@
 // The list of a ledger: four numbers to an entry.
-ghost use Rattle.std.specs.Prelude.{◌≡◌, get_or};
+ghost use Rattle.std.specs.Prelude.{◌≡◌};
 ghost use Rattle.ledger.specs.Asked.{note_of};
 ghost use Rattle.ledger.specs.Memory.{note_at};
 
-// An entry: its kind, and the place of the command or of the stop that it tells of.
+// An entry: its kind, and the place of the command or of the stop that it tells of. The kind is a number, since the lent numbers (RULES: X12) may
+// hold any.
 #[derive(Clone, Copy)]
 pub struct Entry {
     pub kind: u64,
     pub line: u64,
     pub frame: u64,
     pub offset: u64,
-}
-
-// The number at a place, and 0 past the end.
-pub(crate) fn number_at(list: &[u64], i: usize) -> u64
-    ensures { result ≡ get_or list.now i 0 }
-{
-    if i < list.len() { list[i] } else { 0 }
 }
 
 // The entry with this index, and zeros past the end.
@@ -26,14 +20,11 @@ pub fn entry_at(list: &[u64], k: usize) -> Entry
     let room = list.len() / 4;
     if k < room {
         let at = 4 * k;
-        let a = at + 1;
-        let b = at + 2;
-        let c = at + 3;
         Entry {
             kind: list[at],
-            line: list[a],
-            frame: list[b],
-            offset: list[c],
+            line: list[at + 1],
+            frame: list[at + 2],
+            offset: list[at + 3],
         }
     } else {
         Entry {

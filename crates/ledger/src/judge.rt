@@ -1,157 +1,112 @@
 // A line is judged before anything of it is written. In a line every command of a CID is a request, or every one an answer, so what its commands
 // will find is known from the open requests before it and from how many commands of each CID went before in the line.
-ghost use Rattle.std.specs.Prelude.{◌+◌, ◌-◌, ◌*◌, ◌%◌, ◌<◌, ◌≤◌, cond, ◌≡◌, eqb, ltb, length, take, drop};
+ghost use Rattle.std.specs.Prelude.{◌%◌, ◌≡◌, ltb, length, drop};
 ghost use mathlib.Core.List.{head?};
 ghost use Rattle.bits.specs.Bits.{bit_of};
 ghost use Rattle.ledger.specs.Events.{is_request, agrees_with};
-ghost use Rattle.ledger.specs.Memory.{request_at, pending_in};
+ghost use Rattle.ledger.specs.Memory.{request_of, open_requests};
 ghost use Rattle.ledger.specs.Parents.{brought_by};
 ghost use Rattle.ledger.specs.Settings.{is_beyond};
-ghost use Rattle.ledger.specs.Working.{reply_of, Judges};
+ghost use Rattle.table.specs.Told.{told, told_verdict};
+ghost use Rattle.ledger.specs.Working.{reply_of, taking, left_behind, Judges};
 
-use crate::commands::{is_request, says_yes};
-use crate::memory::waiting;
-use table::Rules;
+use crate::Ledger;
+use crate::commands::Command;
+use crate::memory::{Asked, CIDS, MOST_OPEN, Queue};
+use table::{Refusal, Rules};
 use walk::{Step, step_at};
 
 // Whether the low byte of a request's payload is the index of no channel that is held.
-fn is_far(number: u64) -> bool
-    ensures { result ≡ ltb 15 (number % 256) }
+fn is_far(payload: u64) -> bool
+    ensures { result ≡ ltb 15 (payload % 256) }
 {
-    15 < number % 256
+    15 < payload % 256
 }
 
-// Whether an open request is for a channel that is not held.
-fn is_beyond(pending: &[u64; 528], cid: usize, i: usize) -> bool
-    requires cid_bound { cid < 16 }
-    requires i_bound { i < 8 }
-    ensures { result ≡ is_beyond (request_at cid pending.now (32 * cid + 4 * i)) }
+// Whether a request is for a channel that is not held.
+fn is_beyond(cid: u8, request: Asked) -> bool
+    ensures { result ≡ is_beyond (request_of cid request) }
 {
-    let first = 32 * cid + 4 * i;
-    let fourth = first + 3;
-    let number = pending[fourth];
-    if cid == 0x07 {
-        return is_far(number);
+    match cid {
+        0x07 | 0x0A => is_far(request.payload),
+        _ => false,
     }
-    if cid == 0x0A {
-        return is_far(number);
-    }
-    false
 }
 
 // Whether an answer brings an entry, so many answers of its CID going before it. What it says is asked last, since it counts for few.
-fn is_due(
-    stream: &[u8],
-    pending: &[u64; 528],
-    before: usize,
-    body: usize,
-    cid: u8,
-    len: usize,
-) -> bool
-    requires cid_bound { cid < 16 }
-    requires len_in_bounds { body + len ≤ length stream.now }
-    ensures { bit_of result ≡ length (brought_by (reply_of cid (agrees_with cid (take len (drop body stream.now))) 0 0 0)
-        (head? (drop before (pending_in pending.now cid)))) }
+fn is_due(queue: &Queue, before: usize, command: Command) -> bool
+    ensures { bit_of result ≡ length (brought_by (reply_of command.entry.cid (agrees_with command.entry.cid command.entry.payload.now) 0 0 0)
+        (head? (drop before (open_requests command.entry.cid queue.now)))) }
 {
-    let c = cid as usize;
-    let open = waiting(pending, c);
-    if open <= before {
+    let Some(request) = queue.get(before) else {
         return true;
+    };
+    if !is_beyond(command.cid, request) {
+        return false;
     }
-    if is_beyond(pending, c, before) {
-        return says_yes(stream, body, len, cid);
-    }
-    false
+    command.says_yes()
 }
 
-// What a command needs: 0 for nothing that may be missing, 4 for an entry's room, 17 for room among the open requests, which is not there.
-fn need_of(
+// An entry takes the room of one: so much is left behind it of what was before.
+fn room_after(left: usize) -> Result<usize, Refusal>
+    ensures { told (λ n. n) result ≡ taking 1 left }
+{
+    left.checked_sub(1).ok_or(Refusal::BufferTooShort)
+}
+
+// A command that so many of its CID go before, in a line with room left for so many entries: how many have room behind it.
+fn left_after(
     rules: Rules,
-    stream: &[u8],
-    pending: &[u64; 528],
+    queue: &Queue,
     before: usize,
-    body: usize,
-    cid: u8,
-    len: usize,
-) -> u8
-    requires cid_bound { cid < 16 }
-    requires len_in_bounds { body + len ≤ length stream.now }
-    ensures { result ≡
-        cond (is_request rules cid) (cond (ltb (length (pending_in pending.now cid) + before) 8) 0 17)
-        (4 * length (brought_by (reply_of cid (agrees_with cid (take len (drop body stream.now))) 0 0 0)
-        (head? (drop before (pending_in pending.now cid))))) }
+    command: Command,
+    left: usize,
+) -> Result<usize, Refusal>
+    ensures { told (λ n. n) result ≡ left_behind (open_requests command.entry.cid queue.now) (is_request rules command.entry.cid) before
+        command.entry.cid (agrees_with command.entry.cid command.entry.payload.now) left }
 {
-    if is_request(rules, cid) {
-        let c = cid as usize;
-        let open = waiting(pending, c);
-        let free = 8 - open;
-        return if before < free { 0 } else { 17 };
+    if command.is_request(rules) {
+        let free = MOST_OPEN - queue.open();
+        return if before < free {
+            Ok(left)
+        } else {
+            Err(Refusal::PendingFull)
+        };
     }
-    if is_due(stream, pending, before, body, cid, len) {
-        4
+    if is_due(queue, before, command) {
+        room_after(left)
     } else {
-        0
+        Ok(left)
     }
 }
 
-// The refusal of a command that needs this, where so many entries have room; 0 for none.
-fn fault_of(need: u8, left: usize) -> u8
-    ensures { result ≡ cond (eqb need 4) (cond (eqb left 0) 4 0) need }
-{
-    if need == 4 {
-        return if left == 0 { 4 } else { 0 };
-    }
-    need
-}
-
-// How many entries have room behind it.
-fn left_after(need: u8, left: usize) -> usize
-    ensures { result ≡ cond (eqb need 4) (left - 1) left }
-{
-    if need == 4 {
-        return if left == 0 { 0 } else { left - 1 };
-    }
-    left
-}
-
-fn room_left(listed: usize, room: usize) -> usize
-    ensures { result ≡ room - listed }
-{
-    if listed < room { room - listed } else { 0 }
-}
-
-// The number of the first refusal in a line, in the order of its stream: 4 where an entry has no room, 17 where a request has none; 0 for none.
-pub(crate) fn judge(
-    rules: Rules,
-    stream: &[u8],
-    pending: &[u64; 528],
-    listed: usize,
-    room: usize,
-) -> u8
-    ensures { Judges rules stream.now pending.now listed room result }
-{
-    let mut seen = [0usize; 16];
-    let mut left = room_left(listed, room);
-    let mut at: usize = 0;
-    loop {
-        let found = step_at(rules, stream, at);
-        match found {
-            Step::Command { cid, len, next } => {
-                let c = cid as usize;
-                let before = seen[c];
-                seen[c] = before + 1;
-                let body = at + 1;
-                let need = need_of(rules, stream, pending, before, body, cid, len);
-                let fault = fault_of(need, left);
-                if fault != 0 {
-                    break fault;
+impl Ledger {
+    // Whether a line is taken, where a list has room for so many entries, or the first refusal in it, in the order of its stream.
+    pub(crate) fn judge(&self, rules: Rules, stream: &[u8], room: usize) -> Result<(), Refusal>
+        ensures { Judges rules stream.now self.now.pending self.now.listed room (told_verdict result) }
+    {
+        let mut seen = [0usize; CIDS];
+        let mut left = room.saturating_sub(self.listed);
+        let mut at: usize = 0;
+        // No plainer as an iterator: the proof speaks of the offset, which one would hide. The label is the loop's name in the proof.
+        'commands: loop {
+            match step_at(rules, stream, at) {
+                Step::Command { cid, next, .. } => {
+                    let row = cid as usize;
+                    let before = seen[row];
+                    seen[row] = before + 1;
+                    let payload = &stream[at + 1..next];
+                    let command = Command { cid, payload };
+                    left = left_after(rules, &self.pending[row], before, command, left)?;
+                    at = next;
                 }
-                left = left_after(need, left);
-                at = next;
+                Step::End => return Ok(()),
+                Step::Stop { .. } => {
+                    room_after(left)?;
+                    return Ok(());
+                }
+                Step::Refused(_) => return Ok(()),
             }
-            Step::End => break 0,
-            Step::Stop { reason: _, at: _ } => break fault_of(4, left),
-            Step::Refused(_) => break 0,
         }
     }
 }

@@ -14,15 +14,17 @@ ghost use Rattle.std.specs.Prelude.{◌≡◌};
 ghost use Rattle.ledger.specs.Asked.{fresh_ledger};
 
 pub use entries::{Entry, entry_at};
-pub use exchange::{Replayed, replay_trace};
-pub use settings::Held;
+pub use exchange::{BadLine, replay_trace};
+use memory::{CIDS, Parents, Queue, ROWS};
+pub use settings::Parent;
 
 #[derive(Clone, Copy)]
 pub struct Ledger {
+    // How many lines are counted and how many entries are listed, for callers to read.
     pub lines: u64,
     pub listed: usize,
-    pending: [u64; 528],
-    held: [u64; 333],
+    pending: [Queue; CIDS],
+    held: [Parents; ROWS],
 }
 
 impl Ledger {
@@ -33,8 +35,8 @@ impl Ledger {
         Ledger {
             lines: 0,
             listed: 0,
-            pending: [0; 528],
-            held: [0; 333],
+            pending: [Queue::default(); CIDS],
+            held: [Parents::default(); ROWS],
         }
     }
 }

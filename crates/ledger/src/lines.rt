@@ -1,153 +1,137 @@
 // A line of a trace, read in one pass over its characters (RULES: X1, X2).
-ghost use Rattle.std.specs.Prelude.{◌≡◌, ◌+◌, ◌*◌, ◌/◌, ◌<◌, ◌≤◌, min, length, take, drop};
+ghost use Rattle.std.specs.Prelude.{◌≡◌, ◌+◌, ◌*◌, ◌/◌, ◌<◌, ◌≤◌, min, length, take, drop, IfSome};
 ghost use Rattle.text.specs.Decimal.{value_of};
 ghost use Rattle.ledger.specs.Lines.{digit_in, number_in, heading_in, nibble, pairs_in, field_in};
-ghost use Rattle.ledger.specs.Lines.{heading_told, closed_told, closed_at, from, field_told, line_told};
+ghost use Rattle.ledger.specs.Lines.{known, digit_told, hex_told, number_told, numbered, closed_told, closed_at, from, field_told, line_told};
 ghost use Rattle.ledger.specs.Working.{front_at};
 
 use table::Direction;
 
+// The most bytes of a stream.
+pub(crate) const MOST_BYTES: usize = 255;
+
+// Text and offset go together below. The slice behind the offset is no plainer: what is answered are offsets in the text, and each bound would
+// stand of the slice's length again.
 // The value of the number in front, and the offset behind it.
 #[derive(Clone, Copy)]
-pub(crate) struct Number {
-    pub value: u64,
-    pub next: usize,
+struct Number {
+    value: u64,
+    next: usize,
 }
 
+// How many bytes a stream has in the memory, which is an array (RULES: X17), and the offset behind its field and the newline.
 #[derive(Clone, Copy)]
-pub(crate) struct Heading {
-    pub ok: bool,
-    pub direction: Direction,
+struct Field {
+    len: usize,
+    next: usize,
 }
 
-// How many bytes a stream has, and the offset behind its field and the newline.
-#[derive(Clone, Copy)]
-pub(crate) struct Field {
-    pub ok: bool,
-    pub len: usize,
-    pub next: usize,
-}
-
-// The line at an offset, but for its stream, and the offset behind it; or that none has the form there.
+// The line at an offset, but for its stream, and the offset behind it.
 #[derive(Clone, Copy)]
 pub(crate) struct LineAt {
-    pub ok: bool,
     pub frame: u32,
     pub direction: Direction,
     pub len: usize,
     pub next: usize,
 }
 
-fn digit(c: u8) -> u64
-    ensures { result ≡ digit_in c }
+fn digit(c: u8) -> Option<u64>
+    ensures value { digit_told result ≡ digit_in c }
+    ensures bound { IfSome result (λ d. d < 10) }
 {
-    if c < 48 {
-        return 10;
+    match c {
+        b'0'..=b'9' => Some((c - b'0') as u64),
+        _ => None,
     }
-    if c < 58 { (c - 48) as u64 } else { 10 }
 }
 
-fn number_at(text: &[u8], at: usize) -> Number
+// The digits at an offset, as far as a number of 32 bits could go: a zero stands alone.
+fn digits_at(text: &[u8], at: usize) -> Number
     requires { at < length text.now }
     ensures value_value { result.value ≡ value_of (number_in (drop at text.now)) }
     ensures next_value { result.next ≡ at + length (number_in (drop at text.now)) }
 {
     let zero = text[at];
     if zero == b'0' {
-        let behind = at + 1;
-        return Number {
-            value: 0,
-            next: behind,
-        };
+        let next = at + 1;
+        return Number { value: 0, next };
     }
     let mut value: u64 = 0;
-    let mut i = at;
-    while i < text.len() {
-        let d = digit(text[i]);
-        if 9 < d {
-            break;
-        }
+    for (n, c) in text[at..].iter().enumerate() {
+        let Some(d) = digit(*c) else {
+            return Number {
+                value,
+                next: at + n,
+            };
+        };
         if 429_496_729 < value {
-            break;
+            return Number {
+                value,
+                next: at + n,
+            };
         }
-        let ten = value * 10;
-        value = ten + d;
-        i += 1;
+        value = value * 10 + d;
     }
     Number {
-        value: value,
-        next: i,
+        value,
+        next: text.len(),
     }
 }
 
-fn heading_at(text: &[u8], at: usize) -> Heading
-    requires { at ≤ length text.now }
-    ensures { heading_told result ≡ heading_in (drop at text.now) }
+// The number at an offset; none where no digit stands.
+fn number_at(text: &[u8], at: usize) -> Option<Number>
+    requires { at < length text.now }
+    ensures { number_told result ≡ numbered at (number_in (drop at text.now)) }
 {
-    let room = text.len() - at;
-    if room < 3 {
-        return Heading {
-            ok: false,
-            direction: Direction::Up,
-        };
+    let number = digits_at(text, at);
+    if number.next == at {
+        None
+    } else {
+        Some(number)
     }
-    let second = at + 1;
-    let third = at + 2;
-    let before = text[at];
-    let letter = text[second];
-    let behind = text[third];
-    if before != 9 {
-        return Heading {
-            ok: false,
-            direction: Direction::Up,
-        };
+}
+
+// The letter of a direction, between two tabs.
+fn heading_at(text: &[u8], at: usize) -> Option<Direction>
+    requires { at ≤ length text.now }
+    ensures { known result ≡ heading_in (drop at text.now) }
+{
+    let [before, letter, behind, ..] = &text[at..] else {
+        return None;
+    };
+    if *before != b'\t' || *behind != b'\t' {
+        return None;
     }
-    if behind != 9 {
-        return Heading {
-            ok: false,
-            direction: Direction::Up,
-        };
-    }
-    if letter == b'D' {
-        return Heading {
-            ok: true,
-            direction: Direction::Down,
-        };
-    }
-    if letter == b'U' {
-        return Heading {
-            ok: true,
-            direction: Direction::Up,
-        };
-    }
-    Heading {
-        ok: false,
-        direction: Direction::Up,
+    match *letter {
+        b'D' => Some(Direction::Down),
+        b'U' => Some(Direction::Up),
+        _ => None,
     }
 }
 
 // One arm for each digit: compiled, that is a table, where ranges would be branches that no processor foresees.
-fn hex_value(c: u8) -> u8
-    ensures { result ≡ nibble c }
+fn hex_value(c: u8) -> Option<u8>
+    ensures value { hex_told result ≡ nibble c }
+    ensures bound { IfSome result (λ h. h < 16) }
 {
     match c {
-        48 => 0,
-        49 => 1,
-        50 => 2,
-        51 => 3,
-        52 => 4,
-        53 => 5,
-        54 => 6,
-        55 => 7,
-        56 => 8,
-        57 => 9,
-        65 => 10,
-        66 => 11,
-        67 => 12,
-        68 => 13,
-        69 => 14,
-        70 => 15,
-        _ => 16,
+        48 => Some(0),
+        49 => Some(1),
+        50 => Some(2),
+        51 => Some(3),
+        52 => Some(4),
+        53 => Some(5),
+        54 => Some(6),
+        55 => Some(7),
+        56 => Some(8),
+        57 => Some(9),
+        65 => Some(10),
+        66 => Some(11),
+        67 => Some(12),
+        68 => Some(13),
+        69 => Some(14),
+        70 => Some(15),
+        _ => None,
     }
 }
 
@@ -164,78 +148,55 @@ fn byte_of(high: u8, low: u8) -> u8
 fn room_in(len: usize) -> usize
     ensures { result ≡ min (len / 2) 255 }
 {
-    let half = len / 2;
-    if half < 255 { half } else { 255 }
+    (len / 2).min(MOST_BYTES)
 }
 
 // How many pairs of digits stand in front. Each is put into the memory as a byte.
-fn pairs(text: &[u8], at: usize, stream: &mut [u8; 255]) -> usize
-    requires at_in_bounds { at ≤ length text.now }
-    requires stream_len { length stream.old ≡ 255 }
+fn pairs(text: &[u8], at: usize, stream: &mut [u8; MOST_BYTES]) -> usize
+    requires { at ≤ length text.now }
     ensures value { result ≡ length (pairs_in 255 (drop at text.now)) }
     ensures stream_after { take result stream.new ≡ pairs_in 255 (drop at text.now) }
-    ensures stream_len_2 { length stream.new ≡ 255 }
 {
     let most = room_in(text.len() - at);
-    let mut n: usize = 0;
-    let mut i = at;
-    while n < most {
-        let high = hex_value(text[i]);
-        if 15 < high {
-            break;
-        }
-        let second = i + 1;
-        let low = hex_value(text[second]);
-        if 15 < low {
-            break;
-        }
+    for n in 0..most {
+        let first = at + 2 * n;
+        let Some(high) = hex_value(text[first]) else {
+            return n;
+        };
+        let second = first + 1;
+        let Some(low) = hex_value(text[second]) else {
+            return n;
+        };
         stream[n] = byte_of(high, low);
-        n += 1;
-        i += 2;
     }
-    n
+    most
 }
 
 // Whether a newline ends the field there, which has so many bytes.
-fn closed_at(text: &[u8], end: usize, len: usize) -> Field
+fn closed_at(text: &[u8], end: usize, len: usize) -> Option<Field>
     requires { end ≤ length text.now }
     ensures result_value { closed_told result ≡ closed_at text.now end len }
-    ensures len_le_len { result.len ≤ len }
+    ensures len_bound { IfSome result (λ f. f.len ≤ len) }
 {
-    let none = Field {
-        ok: false,
-        len: 0,
-        next: 0,
-    };
     if text.len() <= end {
-        return none;
+        return None;
     }
     let last = text[end];
-    if last != 10 {
-        return none;
+    if last != b'\n' {
+        return None;
     }
     let next = end + 1;
-    Field {
-        ok: true,
-        len,
-        next,
-    }
+    Some(Field { len, next })
 }
 
 // The stream, in hex or a dash for no bytes, and the newline behind it.
-fn field_at(text: &[u8], at: usize, stream: &mut [u8; 255]) -> Field
-    requires at_in_bounds { at ≤ length text.now }
-    requires stream_len { length stream.old ≡ 255 }
+fn field_at(text: &[u8], at: usize, stream: &mut [u8; MOST_BYTES]) -> Option<Field>
+    requires { at ≤ length text.now }
     ensures stream_after { field_told result stream.new ≡ from at (field_in (drop at text.now)) }
-    ensures len_bound { result.len ≤ 255 }
-    ensures stream_len_2 { length stream.new ≡ 255 }
+    ensures len_bound { IfSome result (λ f. f.len ≤ 255) }
 {
     if text.len() <= at {
-        return Field {
-            ok: false,
-            len: 0,
-            next: 0,
-        };
+        return None;
     }
     let first = text[at];
     if first == b'-' {
@@ -244,11 +205,7 @@ fn field_at(text: &[u8], at: usize, stream: &mut [u8; 255]) -> Field
     }
     let n = pairs(text, at, stream);
     if n == 0 {
-        return Field {
-            ok: false,
-            len: 0,
-            next: 0,
-        };
+        return None;
     }
     let size = 2 * n;
     let end = at + size;
@@ -256,54 +213,23 @@ fn field_at(text: &[u8], at: usize, stream: &mut [u8; 255]) -> Field
 }
 
 // The line at an offset. Its stream is put into the memory; where no line has the form there, nothing is said of the memory.
-pub(crate) fn line_at(text: &[u8], at: usize, stream: &mut [u8; 255]) -> LineAt
-    requires at_in_bounds { at < length text.now }
-    requires stream_len { length stream.old ≡ 255 }
+pub(crate) fn line_at(text: &[u8], at: usize, stream: &mut [u8; MOST_BYTES]) -> Option<LineAt>
+    requires { at < length text.now }
     ensures stream_after { line_told result stream.new ≡ front_at text.now at }
-    ensures len_bound { result.len ≤ 255 }
-    ensures stream_len_2 { length stream.new ≡ 255 }
+    ensures len_bound { IfSome result (λ l. l.len ≤ 255) }
 {
-    let found = number_at(text, at);
-    let behind = found.next;
-    let value = found.value;
-    if behind == at {
-        return LineAt {
-            ok: false,
-            frame: 0,
-            direction: Direction::Up,
-            len: 0,
-            next: 0,
-        };
-    }
+    let number = number_at(text, at)?;
+    let behind = number.next;
+    let value = number.value;
     if 4_294_967_295 < value {
-        return LineAt {
-            ok: false,
-            frame: 0,
-            direction: Direction::Up,
-            len: 0,
-            next: 0,
-        };
+        return None;
     }
-    let sent = heading_at(text, behind);
-    let ok = sent.ok;
-    let direction = sent.direction;
-    if ok {
-        let field = behind + 3;
-        let read = field_at(text, field, stream);
-        LineAt {
-            ok: read.ok,
-            frame: value as u32,
-            direction,
-            len: read.len,
-            next: read.next,
-        }
-    } else {
-        LineAt {
-            ok: false,
-            frame: 0,
-            direction: Direction::Up,
-            len: 0,
-            next: 0,
-        }
-    }
+    let direction = heading_at(text, behind)?;
+    let field = field_at(text, behind + 3, stream)?;
+    Some(LineAt {
+        frame: value as u32,
+        direction,
+        len: field.len,
+        next: field.next,
+    })
 }

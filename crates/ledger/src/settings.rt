@@ -1,11 +1,11 @@
 // What a ledger holds of each setting: the request that set it, its parent, and what that request says, by the readers of its payload.
-ghost use Rattle.std.specs.Prelude.{◌<◌, [], ◌∷◌, ◌≡◌};
+ghost use Rattle.std.specs.Prelude.{◌<◌, ◌≡◌, ℕ, get_or, map};
 ghost use Rattle.bits.specs.Bits.{bit_of};
 ghost use Rattle.fields.specs.Lists.{low_first};
 ghost use Rattle.ledger.specs.Asked.{in_hand};
-ghost use Rattle.ledger.specs.Memory.{five_of, held_in, channel_row, row_of};
+ghost use Rattle.ledger.specs.Memory.{five_of, request_of, parents_in, held_in, channel_row, no_parents};
 ghost use Rattle.ledger.specs.Parents.{shown};
-ghost use Rattle.ledger.specs.Rows.{setting_of, row_at, answered};
+ghost use Rattle.ledger.specs.Rows.{setting_of, parents_told};
 ghost use Rattle.ledger.specs.Settings.{
   data_rate,
   tx_power,
@@ -26,17 +26,18 @@ ghost use Rattle.ledger.specs.Settings.{
 };
 
 use crate::Ledger;
-use crate::entries::number_at;
+use crate::memory::{
+    DL_CHANNEL, DUTY_CYCLE, LINK_ADR, NEW_CHANNEL, Parents, ROWS, RX_PARAM_SETUP, RX_TIMING_SETUP,
+    TX_PARAM_SETUP,
+};
 use payloads::{
     DlChannelReqPayload, DutyCycleReqPayload, LinkADRReqPayload, NewChannelReqPayload,
     RXParamSetupReqPayload, RXTimingSetupReqPayload, TXParamSetupReqPayload,
 };
 
-// Whether a setting has a parent, where that request stands, what it says of the setting, and whether the parent before it said the same.
-// Where there is no parent, every number is 0 and every answer no.
-#[derive(Clone, Copy)]
-pub struct Held {
-    pub known: bool,
+// A setting's parent: where that request stands, what it says of the setting, and whether the parent before it said the same.
+#[derive(Clone, Copy, PartialEq, Eq)]
+pub struct Parent {
     pub line: u64,
     pub frame: u64,
     pub offset: u64,
@@ -44,7 +45,8 @@ pub struct Held {
     pub unchanged: bool,
 }
 
-// The setting that is asked for, of a channel by its index.
+// The setting that is asked for, of a channel by its index. An enum and no closure: a contract names the setting by it (`setting_of`), for which
+// alone the channel is there.
 #[derive(Clone, Copy)]
 enum Which {
     DataRate,
@@ -64,77 +66,26 @@ enum Which {
     DownlinkFrequency(u8),
 }
 
-// ---- Rows: settings that one request writes share one.
-
-// How many parents a row has, where the last of them stands, and the payloads of the last and of the one before it.
-#[derive(Clone, Copy)]
-struct Row {
-    count: u64,
-    line: u64,
-    frame: u64,
-    offset: u64,
-    last: u64,
-    before: u64,
-}
-
-fn row_at(held: &[u64], p: u8) -> Row
-    ensures { result ≡ row_at held.now p }
-{
-    let row = p as usize;
-    let counted = 296 + row;
-    let at = 8 * row;
-    let a = at + 1;
-    let b = at + 2;
-    let c = at + 3;
-    let d = at + 7;
-    Row {
-        count: number_at(held, counted),
-        line: number_at(held, at),
-        frame: number_at(held, a),
-        offset: number_at(held, b),
-        last: number_at(held, c),
-        before: number_at(held, d),
-    }
-}
-
-// A channel's row. A channel over 15 is not held: its row would stand behind the last, where nothing is.
-fn channel_row(first: u8, channel: u8) -> u8
-    requires { first < 22 }
-    ensures { result ≡ channel_row first channel }
-{
-    if channel < 16 { first + channel } else { 37 }
-}
-
 // ---- What a payload says of a setting, by its reader.
 
 // Two bytes as a number, the low byte first.
-fn pair(low: u8, high: u8) -> u32
-    ensures { result ≡ low_first (low ∷ high ∷ []) }
+fn mask_number(mask: [u8; 2]) -> u32
+    ensures { result ≡ low_first mask }
 {
-    (low as u32) + 256 * (high as u32)
-}
-
-fn mask_number(m: [u8; 2]) -> u32
-    ensures { result ≡ low_first m }
-{
-    pair(m[0], m[1])
+    u16::from_le_bytes(mask) as u32
 }
 
 fn flag_number(flag: bool) -> u32
     ensures { result ≡ bit_of flag }
 {
-    if flag { 1 } else { 0 }
+    flag as u32
 }
 
 // Of a payload as one number, whose low byte is the payload's first.
 fn said(which: Which, n: u64) -> u32
     ensures { result ≡ says (setting_of which) (five_of n) }
 {
-    let a = (n % 256) as u8;
-    let b = (n / 256 % 256) as u8;
-    let c = (n / 65536 % 256) as u8;
-    let d = (n / 16777216 % 256) as u8;
-    let e = (n / 4294967296 % 256) as u8;
+    let [a, b, c, d, e, ..] = n.to_le_bytes();
     match which {
         Which::DataRate => LinkADRReqPayload(a, b, c, d).data_rate() as u32,
         Which::TxPower => LinkADRReqPayload(a, b, c, d).tx_power() as u32,
@@ -162,155 +113,130 @@ fn said(which: Which, n: u64) -> u32
 
 // ---- Answers.
 
-// What is answered of a row whose last parent says `last`, and the one before it `before`.
-fn answer(row: Row, last: u32, before: u32) -> Held
-    ensures { result ≡ answered row last before }
-{
-    if 0 < row.count {
-        Held {
-            known: true,
-            line: row.line,
-            frame: row.frame,
-            offset: row.offset,
-            value: last,
-            unchanged: 1 < row.count && last == before,
-        }
-    } else {
-        Held {
-            known: false,
-            line: 0,
-            frame: 0,
-            offset: 0,
-            value: 0,
-            unchanged: false,
-        }
+impl Parents {
+    // What is shown of a setting of this row.
+    fn parent(self, which: Which) -> Option<Parent>
+        ensures { (cid : ℕ) → result ≡ in_hand (shown (setting_of which) (map (request_of cid) (parents_in self))) }
+    {
+        let last = self.last?;
+        let value = said(which, last.payload);
+        let unchanged = match self.before {
+            Some(before) => said(which, before.payload) == value,
+            None => false,
+        };
+        Some(Parent {
+            line: last.at.line,
+            frame: last.at.frame,
+            offset: last.at.offset,
+            value,
+            unchanged,
+        })
     }
 }
 
-// What is shown of a setting, whose row is p.
-fn parent(held: &[u64], which: Which, p: u8) -> Held
-    requires { p ≡ row_of (setting_of which) }
-    ensures { result ≡ in_hand (shown (setting_of which) (held_in held.now (setting_of which))) }
+// A channel's row, from the row of channel 0 on; none of a channel over 15, which is not held.
+fn channel_row(held: &[Parents; ROWS], first: usize, channel: u8) -> Option<Parents>
+    requires { first < 22 }
+    ensures { parents_told result ≡ parents_in (get_or held.now (channel_row first channel) no_parents) }
 {
-    let row = row_at(held, p);
-    answer(row, said(which, row.last), said(which, row.before))
+    if 15 < channel {
+        return None;
+    }
+    Some(held[first + channel as usize])
 }
 
 impl Ledger {
-    pub fn data_rate(self) -> Held
+    pub fn data_rate(self) -> Option<Parent>
         ensures { result ≡ in_hand (shown data_rate (held_in self.held data_rate)) }
     {
-        let held = self.held;
-        parent(&held, Which::DataRate, 0)
+        self.held[LINK_ADR].parent(Which::DataRate)
     }
 
-    pub fn tx_power(self) -> Held
+    pub fn tx_power(self) -> Option<Parent>
         ensures { result ≡ in_hand (shown tx_power (held_in self.held tx_power)) }
     {
-        let held = self.held;
-        parent(&held, Which::TxPower, 0)
+        self.held[LINK_ADR].parent(Which::TxPower)
     }
 
     // The two bytes as a number, the low byte first.
-    pub fn channel_mask(self) -> Held
+    pub fn channel_mask(self) -> Option<Parent>
         ensures { result ≡ in_hand (shown channel_mask (held_in self.held channel_mask)) }
     {
-        let held = self.held;
-        parent(&held, Which::ChannelMask, 0)
+        self.held[LINK_ADR].parent(Which::ChannelMask)
     }
 
     // The whole byte.
-    pub fn redundancy(self) -> Held
+    pub fn redundancy(self) -> Option<Parent>
         ensures { result ≡ in_hand (shown redundancy (held_in self.held redundancy)) }
     {
-        let held = self.held;
-        parent(&held, Which::Redundancy, 0)
+        self.held[LINK_ADR].parent(Which::Redundancy)
     }
 
     // The number n of 1 / 2^n.
-    pub fn max_duty_cycle(self) -> Held
+    pub fn max_duty_cycle(self) -> Option<Parent>
         ensures { result ≡ in_hand (shown max_duty_cycle (held_in self.held max_duty_cycle)) }
     {
-        let held = self.held;
-        parent(&held, Which::MaxDutyCycle, 1)
+        self.held[DUTY_CYCLE].parent(Which::MaxDutyCycle)
     }
 
-    pub fn rx1_dr_offset(self) -> Held
+    pub fn rx1_dr_offset(self) -> Option<Parent>
         ensures { result ≡ in_hand (shown rx1_dr_offset (held_in self.held rx1_dr_offset)) }
     {
-        let held = self.held;
-        parent(&held, Which::Rx1DrOffset, 2)
+        self.held[RX_PARAM_SETUP].parent(Which::Rx1DrOffset)
     }
 
-    pub fn rx2_data_rate(self) -> Held
+    pub fn rx2_data_rate(self) -> Option<Parent>
         ensures { result ≡ in_hand (shown rx2_data_rate (held_in self.held rx2_data_rate)) }
     {
-        let held = self.held;
-        parent(&held, Which::Rx2DataRate, 2)
+        self.held[RX_PARAM_SETUP].parent(Which::Rx2DataRate)
     }
 
-    pub fn rx2_frequency(self) -> Held
+    pub fn rx2_frequency(self) -> Option<Parent>
         ensures { result ≡ in_hand (shown rx2_frequency (held_in self.held rx2_frequency)) }
     {
-        let held = self.held;
-        parent(&held, Which::Rx2Frequency, 2)
+        self.held[RX_PARAM_SETUP].parent(Which::Rx2Frequency)
     }
 
-    pub fn delay(self) -> Held
+    pub fn delay(self) -> Option<Parent>
         ensures { result ≡ in_hand (shown delay (held_in self.held delay)) }
     {
-        let held = self.held;
-        parent(&held, Which::Delay, 3)
+        self.held[RX_TIMING_SETUP].parent(Which::Delay)
     }
 
-    pub fn downlink_dwell_time(self) -> Held
+    pub fn downlink_dwell_time(self) -> Option<Parent>
         ensures { result ≡ in_hand (shown downlink_dwell_time (held_in self.held downlink_dwell_time)) }
     {
-        let held = self.held;
-        parent(&held, Which::DownlinkDwellTime, 4)
+        self.held[TX_PARAM_SETUP].parent(Which::DownlinkDwellTime)
     }
 
-    pub fn uplink_dwell_time(self) -> Held
+    pub fn uplink_dwell_time(self) -> Option<Parent>
         ensures { result ≡ in_hand (shown uplink_dwell_time (held_in self.held uplink_dwell_time)) }
     {
-        let held = self.held;
-        parent(&held, Which::UplinkDwellTime, 4)
+        self.held[TX_PARAM_SETUP].parent(Which::UplinkDwellTime)
     }
 
-    pub fn max_eirp(self) -> Held
+    pub fn max_eirp(self) -> Option<Parent>
         ensures { result ≡ in_hand (shown max_eirp (held_in self.held max_eirp)) }
     {
-        let held = self.held;
-        parent(&held, Which::MaxEirp, 4)
+        self.held[TX_PARAM_SETUP].parent(Which::MaxEirp)
     }
 
     // Of a channel over 15 no parent is known, here and in the two below.
-    pub fn channel_frequency(self, channel: u8) -> Held
+    pub fn channel_frequency(self, channel: u8) -> Option<Parent>
         ensures { result ≡ in_hand (shown (channel_frequency channel) (held_in self.held (channel_frequency channel))) }
     {
-        let held = self.held;
-        parent(
-            &held,
-            Which::ChannelFrequency(channel),
-            channel_row(5, channel),
-        )
+        channel_row(&self.held, NEW_CHANNEL, channel)?.parent(Which::ChannelFrequency(channel))
     }
 
-    pub fn channel_rates(self, channel: u8) -> Held
+    pub fn channel_rates(self, channel: u8) -> Option<Parent>
         ensures { result ≡ in_hand (shown (channel_rates channel) (held_in self.held (channel_rates channel))) }
     {
-        let held = self.held;
-        parent(&held, Which::ChannelRates(channel), channel_row(5, channel))
+        channel_row(&self.held, NEW_CHANNEL, channel)?.parent(Which::ChannelRates(channel))
     }
 
-    pub fn downlink_frequency(self, channel: u8) -> Held
+    pub fn downlink_frequency(self, channel: u8) -> Option<Parent>
         ensures { result ≡ in_hand (shown (downlink_frequency channel) (held_in self.held (downlink_frequency channel))) }
     {
-        let held = self.held;
-        parent(
-            &held,
-            Which::DownlinkFrequency(channel),
-            channel_row(21, channel),
-        )
+        channel_row(&self.held, DL_CHANNEL, channel)?.parent(Which::DownlinkFrequency(channel))
     }
 }

@@ -1,15 +1,12 @@
 -- The claims of specs/Iteration.antt, proved: the steps of an iterator are the walk's. Assumes nothing.
-use Prim.Native.Nat.{ℕ, zero, suc, ◌<◌, ◌≤◌}
-use mathlib.Core.Bool.{Bool, cond}
+use Prim.Native.Nat.{ℕ, zero, suc, min, ◌<◌, ◌≤◌}
 use mathlib.Core.List.{List, []}
 use mathlib.Core.Path.{◌≡◌, sym, ap, ◌∙◌}
 use native.Mathlib.Decide.{dec_lt}
 use native.Mathlib.Numerals.{add-one}
 use native.Mathlib.Omega.{arith}
 use denote.Ref.{Bor}
-use lib.Dec.{ltb}
 use lib.ListN.{length, drop_of_length-le}
-use borrow.Author.Tests.{lt-ltb, le-ltb}
 use Rattle.table.specs.Answers.{given}
 use Rattle.table.specs.Table.{length_of}
 use Rattle.table.specs.declared.rules.Rules.{Rules}
@@ -46,11 +43,11 @@ module _ (L : Rule) (s : List ℕ) where
       ap in_numbers ((steps_reach L s 0 n (omega arith)).finds
       ∙ ap (λ (ps : List Placed). given (first_of ps (walk_of L s).ending)) (drop_of_length-le (walk_of L s).cmds {i = n} (omega arith)))
 
-  pub no_more_calls : (n : ℕ) → nth_answer L s (cond (ltb n (length s)) n (length s)) ≡ nth_answer L s n
+  pub no_more_calls : (n : ℕ) → nth_answer L s (min n (length s)) ≡ nth_answer L s n
   no_more_calls n = by (dec_lt n (length s))
     where
-      by : Dec (n < length s) → nth_answer L s (cond (ltb n (length s)) n (length s)) ≡ nth_answer L s n
-      by (yes h) = ap (λ (b : Bool). nth_answer L s (cond b n (length s))) (lt-ltb n (length s) h)
+      by : Dec (n < length s) → nth_answer L s (min n (length s)) ≡ nth_answer L s n
+      by (yes h) = let m : min n (length s) ≡ n = omega arith in ap (nth_answer L s) m
       by (no h) =
-          ap (λ (b : Bool). nth_answer L s (cond b n (length s))) (le-ltb n (length s) (omega arith))
-          ∙ ending_after (length s) (omega arith) ∙ sym (ending_after n (omega arith))
+          let m : min n (length s) ≡ length s = omega arith in
+          ap (nth_answer L s) m ∙ ending_after (length s) (omega arith) ∙ sym (ending_after n (omega arith))

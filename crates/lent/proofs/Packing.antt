@@ -1,11 +1,10 @@
 -- The claims of specs/Packing.antt, proved. Assumes nothing.
-use Prim.Native.Nat.{ℕ, zero, suc, ◌+◌, ◌*◌, ◌-◌, ◌/◌, ◌%◌, ◌<◌, ◌≤◌}
+use Prim.Native.Nat.{ℕ, suc, ◌+◌, ◌*◌, ◌-◌, ◌/◌, ◌%◌, ◌<◌, ◌≤◌}
 use mathlib.Core.Bool.{Bool, true, false, cond}
 use mathlib.Core.List.{List, [], ◌∷◌, ◌++◌, map, append-nil}
 use mathlib.Core.Option.{Option, none, some}
 use mathlib.Core.Path.{◌≡◌, refl, sym, ap, ◌∙◌, subst}
 use native.Mathlib.Decide.{dec_lt}
-use native.Mathlib.Nat.{add-zero}
 use native.Mathlib.Omega.{arith}
 use lib.Dec.{leb}
 use lib.ListN.{length, get_or, take, drop, length-map, get_or-append}
@@ -22,7 +21,9 @@ use Rattle.walk.specs.Walk.{Rule, encode}
 use Rattle.build.specs.Records.{Rec, Item, whole, part, measured, judged, held_by, no_record, cmds_of, len_byte, slot_at, slots_of, whole_slots}
 use Rattle.build.specs.Build.{Built, total, refused_at, refused, next, sum_from, total_of, fill, build_of}
 use Rattle.build.specs.declared.record.Record.{Record}
+use Rattle.build.proofs.AsRecords.{five_whole}
 use Rattle.build.proofs.Judging.{judged_given}
+pub use Rattle.build.proofs.Slots.{slot_same}
 use Rattle.build.proofs.Writes.{packed_in}
 use Rattle.lent.specs.Records.{recs_of}
 use Rattle.lent.specs.Packing.{in_slot, Packed, AnswersAsPacked, PackMakesSlots}
@@ -155,28 +156,9 @@ module _ (s bs : List ℕ) (a : ℕ) (h : a + length bs ≤ length s) where
       ∙ get_or-drop (a + length bs) s (j - (a + length bs)) 0
       ∙ ap (λ (k : ℕ). get_or s k 0) (omega arith)
 
--- a list, element by element
-elements : (n : ℕ) (bs : List ℕ) → length bs ≡ n → tabulate n (λ (k : ℕ). get_or bs k 0) ≡ bs
-unfolding tabulate
-elements zero [] e = refl
-elements zero (b ∷ bs) e = absurd (omega arith)
-elements (suc n) [] e = absurd (omega arith)
-elements (suc n) (b ∷ bs) e = ap (λ (l : List ℕ). b ∷ l) (elements n bs (omega arith))
-
-five_bytes : (bs : List ℕ) → length bs ≡ 5 → get_or bs 0 0 ∷ get_or bs 1 0 ∷ get_or bs 2 0 ∷ get_or bs 3 0 ∷ get_or bs 4 0 ∷ [] ≡ bs
-unfolding tabulate
-five_bytes bs e = elements 5 bs e
-
 -- the bytes of a slot that count
 abbrev seven : Rec → List ℕ
 seven r = r.cid ∷ len_byte r.len ∷ r.bytes
-
--- what a slot has is known from its seven bytes
-pub slot_same : (s t : List ℕ) (i j : ℕ) → ((k : ℕ) → k < 7 → get_or s (8 * i + k) 0 ≡ get_or t (8 * j + k) 0) → slot_at s i ≡ slot_at t j
-slot_same s t i j h =
-    let z : get_or s (8 * i) 0 ≡ get_or t (8 * j) 0 =
-    ap (λ (k : ℕ). get_or s k 0) (sym (add-zero (8 * i))) ∙ h 0 (omega arith) ∙ ap (λ (k : ℕ). get_or t k 0) (add-zero (8 * j)) in
-    simp (z, h 1 (omega arith), h 2 (omega arith), h 3 (omega arith), h 4 (omega arith), h 5 (omega arith), h 6 (omega arith))
 
 pub pack_makes_slots : PackMakesSlots
 pack_makes_slots s i r h five =
@@ -186,7 +168,7 @@ pack_makes_slots s i r h five =
           ∙ slot_same (over s (8 * i) (seven r)) (seven r) i 0
           (λ k l. let e : k ≡ 8 * 0 + k = omega arith in
           over_in s (seven r) (8 * i) fits (8 * i + k) k refl (omega arith) ∙ ap (λ (j : ℕ). get_or (seven r) j 0) e)
-          ∙ ap (λ (b : List ℕ). record { cid = r.cid; len = len_byte r.len; bytes = b }) (five_bytes r.bytes five);
+          ∙ ap (λ (b : List ℕ). record { cid = r.cid; len = len_byte r.len; bytes = b }) (five_whole r.bytes five);
       others = λ j ne. ap (λ (p : List ℕ). slot_at p j) (sym (packed_in s i r h))
           ∙ slot_same (over s (8 * i) (seven r)) s j j (λ k l. apart j ne k l fits (dec_lt j i));
     }

@@ -2,4 +2,3 @@ pub mod Iteration
 pub mod Iterator
 pub mod Packing
 pub mod Records
-pub mod Tallying

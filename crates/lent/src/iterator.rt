@@ -1,4 +1,4 @@
-ghost use Rattle.std.specs.Prelude.{◌≡◌, cond, ltb};
+ghost use Rattle.std.specs.Prelude.{◌≡◌};
 ghost use Rattle.table.specs.Table.{length_of};
 ghost use Rattle.payloads.specs.Commands.{sent_up, sent_down};
 ghost use Rattle.walk.specs.Stepping.{moved_to};
@@ -23,14 +23,8 @@ fn behind(found: Step, at: usize) -> usize
     ensures { result ≡ moved_to (told_step found) at }
 {
     match found {
-        Step::Command {
-            cid: _,
-            len: _,
-            next,
-        } => next,
-        Step::End => at,
-        Step::Stop { reason: _, at: _ } => at,
-        Step::Refused(_) => at,
+        Step::Command { next, .. } => next,
+        Step::End | Step::Stop { .. } | Step::Refused(_) => at,
     }
 }
 
@@ -45,13 +39,13 @@ impl<'a> MacCommandIterator<'a> {
         }
     }
 
-    // What stands at the index. The index moves behind a command, and stays at the end or a stop.
+    // What stands at the index. The index moves behind a command, and stays at the end or a stop. It is no `Iterator` of std's, since what
+    // it answers there is the end or the stop, again and again, and no `None`.
     pub fn next(&mut self) -> Step
         ensures { (told_step result, self.new) ≡ nexted self.old }
     {
         let found = step_at(self.rules, self.data, self.index);
-        let index = behind(found, self.index);
-        self.index = index;
+        self.index = behind(found, self.index);
         found
     }
 
@@ -60,8 +54,7 @@ impl<'a> MacCommandIterator<'a> {
         ensures { (told_handed result, self.new) ≡ nexted_record frame self.old }
     {
         let handed = record_at(self.rules, frame, self.data, self.index);
-        let index = behind(handed.step, self.index);
-        self.index = index;
+        self.index = behind(handed.step, self.index);
         handed
     }
 
@@ -78,46 +71,26 @@ impl<'a> MacCommandIterator<'a> {
     }
 }
 
-fn sent_up() -> Rules
-    ensures { result ≡ sent_up }
-{
-    Rules::new(Direction::Up)
-}
-
-fn sent_down() -> Rules
-    ensures { result ≡ sent_down }
-{
-    Rules::new(Direction::Down)
-}
-
+// Two functions, a constant apart: these are the names that the Rust has (docs/PORT-OTHER.md).
 pub fn parse_uplink_mac_commands<'a>(data: &'a [u8]) -> MacCommandIterator<'a>
     ensures { result ≡ fresh «data».entry sent_up }
 {
-    MacCommandIterator::new(data, sent_up())
+    MacCommandIterator::new(data, Rules::new(Direction::Up))
 }
 
 pub fn parse_downlink_mac_commands<'a>(data: &'a [u8]) -> MacCommandIterator<'a>
     ensures { result ≡ fresh «data».entry sent_down }
 {
-    MacCommandIterator::new(data, sent_down())
-}
-
-fn lesser(m: usize, n: usize) -> usize
-    ensures { result ≡ cond (ltb m n) m n }
-{
-    if m < n { m } else { n }
+    MacCommandIterator::new(data, Rules::new(Direction::Down))
 }
 
 // What the call of `next` after n others answers. A stream has no more commands than bytes, and behind them the iterator stays.
 pub fn nth_step(rules: Rules, stream: &[u8], n: usize) -> Step
     ensures { told_step result ≡ nth_answer (length_of rules) stream.now n }
 {
-    let before = lesser(n, stream.len());
     let mut iterator = MacCommandIterator::new(stream, rules);
-    let mut i = 0;
-    while i < before {
+    for _call in 0..n.min(stream.len()) {
         iterator.next();
-        i += 1;
     }
     iterator.next()
 }

@@ -10,7 +10,14 @@ use lib.Seq.{take-length}
 use borrow.Author.Tests.{eq-eqb, ne_eqb, le-leb, lt-leb, leb-true}
 use Rattle.bits.specs.Memory.{over}
 use Rattle.bits.proofs.Memory.{Left, over_length, puts_of}
+use Rattle.std.specs.Prelude.{Result, Ok, Err}
+use Rattle.std.specs.Result.{result_unwrap_or}
+use Rattle.table.specs.declared.refusal.Refusal.{Refusal}
+use Rattle.table.specs.declared.rules.Direction.{Direction}
+use Rattle.table.specs.declared.rules.Direction.TheVariants.{Down, Up}
+use Rattle.table.specs.declared.rules.Rules.{Rules}
 use Rattle.table.specs.Answers.{Answer, given, refused}
+use Rattle.table.specs.Told.{told}
 use Rattle.payloads.specs.Commands.{sent_up, sent_down}
 use Rattle.text.specs.Characters.{ascii}
 use Rattle.text.specs.Lines.{joined}
@@ -28,19 +35,24 @@ front_put t out h e =
     ap₂ (λ (k : ℕ) (x : List ℕ). (k, x)) (let b = p.behind in omega arith) p.memory
 
 module _ (t out : List ℕ) (h : length t ≤ length out) where
-  pub total_put : {n : ℕ} {o : List ℕ} → ◌≡◌ {A = Answer ℕ × List ℕ} (given n, o) (into t out) → (n, o) ≡ at_front t out
+  total_put : {n : ℕ} {o : List ℕ} → ◌≡◌ {A = Answer ℕ × List ℕ} (given n, o) (into t out) → (n, o) ≡ at_front t out
   total_put {n} {o} e =
       let q : ◌≡◌ {A = Answer ℕ × List ℕ} (given n, o) (given (length t), over out 0 t) = e ∙ into_room t out h in
       let told : ◌≡◌ {A = Answer ℕ} (given n) (given (length t)) = ap (λ (x : Answer ℕ × List ℕ). x.0) q in
       let n_is : n ≡ length t = cc in
       ap₂ (λ (k : ℕ) (x : List ℕ). (k, x)) n_is (ap (λ (x : Answer ℕ × List ℕ). x.1) q)
 
-  pub never_refused : {k : ℕ} {o : List ℕ} → ◌≡◌ {A = Answer ℕ × List ℕ} (refused k, o) (into t out) → ⊥
+  never_refused : {k : ℕ} {o : List ℕ} → ◌≡◌ {A = Answer ℕ × List ℕ} (refused k, o) (into t out) → ⊥
   never_refused {k} {o} e =
       let q : ◌≡◌ {A = Answer ℕ × List ℕ} (refused k, o) (given (length t), over out 0 t) = e ∙ into_room t out h in
       let told : ◌≡◌ {A = Answer ℕ} (refused k) (given (length t)) = ap (λ (x : Answer ℕ × List ℕ). x.0) q in
       let no_way : ◌≡◌ {A = ℕ} 0 1 = cc in
       omega arith
+
+  -- so is it by the writer's answer, whose length is taken, or none on a refusal
+  pub taken_put : (r : Result ℕ Refusal) {o : List ℕ} → ◌≡◌ {A = Answer ℕ × List ℕ} (told (λ n. n) r, o) (into t out) → (result_unwrap_or r 0, o) ≡ at_front t out
+  taken_put (Ok n) e = total_put e
+  taken_put (Err x) e = absurd (never_refused e)
 
 -- ---- whatever is printed has room
 
@@ -98,13 +110,16 @@ module _ (s : List ℕ) (some : length s ≡ 0 → ⊥) (few : length s ≤ 1025
           let n : length (c ∷ s) - 1 ≡ length s = omega arith in
           ap (λ (k : ℕ). by_letter c (take k s)) n ∙ ap (by_letter c) (take-length s) ∙ simp (le-leb (length s) 1024 (omega arith))
 
-  pub for_down : get_or s 0 0 ≡ 68 → listing_of sent_down 0 (take (length s - 1) (drop 1 s)) ≡ printed_for s
+  pub for_down : (rules : Rules) → rules.direction ≡ Down → get_or s 0 0 ≡ 68 → listing_of rules 0 (take (length s - 1) (drop 1 s)) ≡ printed_for s
   unfolding by_letter ascii
-  for_down e = simp (eq-eqb (get_or s 0 0) 68 e) at letter_is
+  for_down rules d e =
+      ap (λ (x : Direction). listing_of (record { direction = x }) 0 (take (length s - 1) (drop 1 s))) d ∙ simp (eq-eqb (get_or s 0 0) 68 e) at letter_is
 
-  pub for_up : (get_or s 0 0 ≡ 68 → ⊥) → get_or s 0 0 ≡ 85 → listing_of sent_up 0 (take (length s - 1) (drop 1 s)) ≡ printed_for s
+  pub for_up : (rules : Rules) → rules.direction ≡ Up → (get_or s 0 0 ≡ 68 → ⊥) → get_or s 0 0 ≡ 85 → listing_of rules 0 (take (length s - 1) (drop 1 s)) ≡ printed_for s
   unfolding by_letter ascii
-  for_up d e = simp (ne_eqb (get_or s 0 0) 68 d, eq-eqb (get_or s 0 0) 85 e) at letter_is
+  for_up rules u d e =
+      ap (λ (x : Direction). listing_of (record { direction = x }) 0 (take (length s - 1) (drop 1 s))) u
+      ∙ simp (ne_eqb (get_or s 0 0) 68 d, eq-eqb (get_or s 0 0) 85 e) at letter_is
 
   pub for_other : (get_or s 0 0 ≡ 68 → ⊥) → (get_or s 0 0 ≡ 85 → ⊥) → bad_input ≡ printed_for s
   unfolding by_letter ascii

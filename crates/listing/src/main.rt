@@ -7,18 +7,20 @@ ghost use Rattle.std.specs.Counts.{IsPrefixLen};
 ghost use Rattle.listings.specs.Listing.{listing_of};
 ghost use Rattle.listing.specs.Program.{at_front, bad_input, printed_for};
 
-use listings::{ListingAnswer, write_listing};
+use listings::write_listing;
 use std::io;
 use std::io::{Read, Write};
 use table::{Direction, Rules};
 use text::put_bytes;
 
 // Reads to the input's end or the buffer's, however the pieces come, and answers how many bytes there were: none where a read failed, so
-// that no part of an input is taken for the whole. The buffer has room for the letter, the bytes, and one that is too many.
+// that no part of an input is taken for the whole. It is 0 and no `Result`: a failed read and no bytes get the same line. The buffer has
+// room for the letter, the bytes, and one that is too many.
 fn read_input(from: &mut impl Read, buf: &mut [u8]) -> usize
     requires { 1026 ≤ length buf.old }
     ensures { IsPrefixLen result buf.new }
 {
+    // A while: how far a read comes is known behind it, and a read to the end would need a heap.
     let mut len: usize = 0;
     while len < buf.len() {
         match from.read(&mut buf[len..]) {
@@ -30,6 +32,7 @@ fn read_input(from: &mut impl Read, buf: &mut [u8]) -> usize
     len
 }
 
+// `out` is a slice whose room each contract tells, and no `[u8; 30645]`: a must-fail edit makes it one short, which a fact has to refuse, and no type.
 fn put_bad(out: &mut [u8]) -> usize
     requires { 30645 ≤ length out.old }
     ensures { (result, out.new) ≡ at_front bad_input out.old }
@@ -42,11 +45,7 @@ fn put_listing(rules: Rules, stream: &[u8], out: &mut [u8]) -> usize
     requires { (length stream.now ≤ 1024) × (30645 ≤ length out.old) }
     ensures { (result, out.new) ≡ at_front (listing_of rules 0 stream.now) out.old }
 {
-    let answer = write_listing(rules, 0, stream, out);
-    match answer {
-        ListingAnswer::Total(total) => total,
-        ListingAnswer::Refused(_) => 0,
-    }
+    write_listing(rules, 0, stream, out).unwrap_or(0)
 }
 
 // Puts what is printed for an input at the front of out, and answers how many bytes it has.
@@ -55,26 +54,17 @@ fn answer(input: &[u8], out: &mut [u8]) -> usize
     requires { 30645 ≤ length out.old }
     ensures { (result, out.new) ≡ at_front (printed_for input.now) out.old }
 {
-    if input.len() == 0 {
+    let [letter, stream @ ..] = input else {
+        return put_bad(out);
+    };
+    if 1024 < stream.len() {
         return put_bad(out);
     }
-    if 1025 < input.len() {
-        return put_bad(out);
+    match *letter {
+        b'D' => put_listing(Rules::new(Direction::Down), stream, out),
+        b'U' => put_listing(Rules::new(Direction::Up), stream, out),
+        _ => put_bad(out),
     }
-    let letter = input[0];
-    if letter == b'D' {
-        let down = Rules {
-            direction: Direction::Down,
-        };
-        return put_listing(down, &input[1..], out);
-    }
-    if letter == b'U' {
-        let up = Rules {
-            direction: Direction::Up,
-        };
-        return put_listing(up, &input[1..], out);
-    }
-    put_bad(out)
 }
 
 fn print(to: &mut impl Write, input: &[u8], out: &mut [u8]) -> io::Result<()>

@@ -1,5 +1,5 @@
 -- A line's parts, and their lengths. Assumes nothing.
-use Prim.Native.Nat.{ℕ, zero, suc, ◌+◌, ◌-◌, ◌*◌, ◌^◌, ◌<◌, ◌≤◌}
+use Prim.Native.Nat.{ℕ, ◌+◌, ◌*◌, ◌^◌, ◌<◌, ◌≤◌}
 use Prim.Native.String.{String}
 use mathlib.Core.Bool.{Bool, true, false, cond}
 use mathlib.Core.List.{List, [], ◌∷◌, ◌++◌, append_assoc}
@@ -7,9 +7,10 @@ use mathlib.Core.Option.{Option, some}
 use mathlib.Core.Path.{◌≡◌, refl, sym, ap, ◌∙◌}
 use native.Mathlib.Omega.{arith}
 use lib.Dec.{eqb, leb}
-use lib.ListN.{length, length-append, take, drop, length-take, length-drop}
+use lib.ListN.{length, get_or, length-append, drop, length-take, length-drop}
 use lib.Seq.{length-take-le}
 use lib.Text.{eqt}
+use Rattle.std.proofs.lemmas.Bool.Decides.{nat_tests}
 use borrow.Author.Tests.{eqb-true, leb-true}
 use Rattle.table.specs.declared.rules.Direction.{Direction}
 use Rattle.table.specs.declared.rules.Direction.TheVariants.{Down, Up}
@@ -20,7 +21,7 @@ use Rattle.fields.specs.Places.{bytes_at, link_adr_req_channel_mask}
 use Rattle.fields.proofs.Lists.{length_tabulate}
 use Rattle.text.specs.Characters.{ascii, letter_of}
 use Rattle.text.specs.Decimal.{decimal}
-use Rattle.text.specs.Hex.{hex_byte, hex_of, hex_field}
+use Rattle.text.specs.Hex.{hex_byte, hex_field}
 use Rattle.text.specs.Lines.{Line, joined, line}
 use Rattle.text.proofs.Decimals.{decimal_at_most}
 use Rattle.text.proofs.Naming.{names_pass, every_name}
@@ -103,6 +104,14 @@ stamp_long frame = length-append (decimal frame) (9 ∷ [])
 pub frame_long : (frame : ℕ) (l : Line) → length (line (in_frame frame l)) ≡ length (stamp frame) + length (line l)
 frame_long frame l = ap length (frame_parts frame l) ∙ length-append (stamp frame) (line l)
 
+pub letter_down : ascii "D" ≡ 68 ∷ []
+unfolding ascii
+letter_down = refl
+
+pub letter_up : ascii "U" ≡ 85 ∷ []
+unfolding ascii
+letter_up = refl
+
 pub letter_long : (d : Direction) → length (ascii (letter_of d)) ≡ 1
 unfolding ascii
 letter_long Down = refl
@@ -152,8 +161,14 @@ name_few rules c =
 pub counted_long : {b : Bool} (n : ℕ) → b ≡ true → length (behind b n) ≡ 2 + length (decimal n)
 counted_long n e = ap (λ (x : Bool). length (behind x n)) e ∙ simp length-append (omega arith)
 
-pub four_taken : (s : List ℕ) (at : ℕ) {len : ℕ} → len ≡ 4 → channels (take 4 (drop (at + 1) s)) ≡ channels (body_at s at len)
-four_taken s at e = ap (λ (k : ℕ). channels (body_at s at k)) (sym e)
+-- the bytes of a payload of four, one by one
+pub four_listed : (s : List ℕ) → length s ≡ 4 → get_or s 0 0 ∷ get_or s 1 0 ∷ get_or s 2 0 ∷ get_or s 3 0 ∷ [] ≡ s
+four_listed (a ∷ b ∷ c ∷ d ∷ []) h = refl
+four_listed [] h = absurd (omega arith)
+four_listed (a ∷ []) h = absurd (omega arith)
+four_listed (a ∷ b ∷ []) h = absurd (omega arith)
+four_listed (a ∷ b ∷ c ∷ []) h = absurd (omega arith)
+four_listed (a ∷ b ∷ c ∷ d ∷ e ∷ s) h = absurd (omega arith)
 
 -- no more are on than there are
 on_few : (bs : List Bool) → how_many bs ≤ length bs
@@ -172,29 +187,11 @@ behind_few true body = omega (arith, counted_long (channels body) refl, decimal_
 behind_few false body = omega arith
 
 pub payload_few : (len : ℕ) → len ≤ 5 → cond (eqb len 0) 1 (2 * len) ≤ 10
-payload_few len h = by (eqb len 0)
-  where
-    by : (b : Bool) → cond b 1 (2 * len) ≤ 10
-    by true = omega arith
-    by false = omega arith
+payload_few len h = grind (arith, nat_tests)
 
 -- ---- a payload's field, by whether there are bytes
 
-pub dash_is : (s : List ℕ) (at : ℕ) {len : ℕ} → len ≡ 0 → 45 ∷ [] ≡ hex_field (body_at s at len)
+pub dash_is : (s : List ℕ) → length s ≡ 0 → hex_field s ≡ 45 ∷ []
 unfolding ascii
-dash_is s at e = sym (ap (λ (k : ℕ). hex_field (body_at s at k)) e)
-
-hex_shown : (b : List ℕ) → 1 ≤ length b → hex_of b ≡ hex_field b
-hex_shown [] h = absurd (omega arith)
-hex_shown (x ∷ xs) h = refl
-
-pub hex_is : (s : List ℕ) (at len : ℕ) → (len ≡ 0 → ⊥) → at + 1 + len ≤ length s → hex_of (take (at + 1 + len - (at + 1)) (drop (at + 1) s)) ≡ hex_field (body_at s at len)
-hex_is s at len n h =
-    let e : at + 1 + len - (at + 1) ≡ len = omega arith in
-    let l = body_long s at len h in
-    let some : 1 ≤ len = nonzero len n in
-    ap (λ (k : ℕ). hex_of (body_at s at k)) e ∙ hex_shown (body_at s at len) (omega arith)
-  where
-    nonzero : (k : ℕ) → (k ≡ 0 → ⊥) → 1 ≤ k
-    nonzero zero f = absurd (f refl)
-    nonzero (suc k) f = omega arith
+dash_is [] h = refl
+dash_is (b ∷ s) h = absurd (omega arith)

@@ -44,29 +44,29 @@ module _ (frame : ℕ) (out : List ℕ) (to : ℕ) where
           written_of (subst (λ (t : List ℕ). Puts out to t n2 o2) (sym (frame_parts frame l)) second)
 
 module _ (rules : Rules) (at cid : ℕ) (out : List ℕ) (to : ℕ) where
-  pub before_put : {c : ℕ} {n1 n2 n3 n4 n5 n6 n7 n8 : ℕ} {o1 o2 o3 o4 o5 o6 o7 o8 : List ℕ} → to + length (before rules at cid) ≤ length out
+  pub before_put : {c : ℕ} {n1 n2 n3 n4 n5 n6 : ℕ} {o1 o2 o3 o4 o5 o6 : List ℕ} → to + length (before rules at cid) ≤ length out
       → Left n1 o1 out to (decimal at)
-      → Left n2 o2 o1 n1 (9 ∷ [])
       → c ∷ [] ≡ ascii (letter_of rules.direction)
-      → Left n3 o3 o2 n2 (c ∷ [])
+      → Left n2 o2 o1 n1 (9 ∷ c ∷ 9 ∷ [])
+      → Left n3 o3 o2 n2 (hex_byte cid)
       → Left n4 o4 o3 n3 (9 ∷ [])
-      → Left n5 o5 o4 n4 (hex_byte cid)
+      → Left n5 o5 o4 n4 (ascii (name_of rules cid))
       → Left n6 o6 o5 n5 (9 ∷ [])
-      → Left n7 o7 o6 n6 (ascii (name_of rules cid))
-      → Left n8 o8 o7 n7 (9 ∷ [])
-      → Left n8 o8 out to (before rules at cid)
-  before_put {n2 = n2} {o2 = o2} h e1 e2 c e3 e4 e5 e6 e7 e8 =
+      → Left n6 o6 out to (before rules at cid)
+  before_put {n1 = n1} {n2 = n2} {o1 = o1} {o2 = o2} h e1 c e2 e3 e4 e5 e6 =
       let l = before_long rules at cid in
       let x = letter_long rules.direction in
+      let d : List ℕ = decimal at in
+      let side : List ℕ = ascii (letter_of rules.direction) in
+      let apart : d ++ (9 ∷ side ++ (9 ∷ [])) ≡ d ++ (9 ∷ []) ++ side ++ (9 ∷ []) =
+      sym (append_assoc (d ++ (9 ∷ [])) side (9 ∷ []) ∙ append_assoc d (9 ∷ []) (side ++ (9 ∷ []))) in
       let p1 = puts_of (omega arith) e1 in
-      let p2 = puts_more (9 ∷ []) p1 (omega arith) e2 in
-      let p3 = puts_more (ascii (letter_of rules.direction)) p2 (simp length-append (omega arith)) (e3 ∙ ap (written_at o2 n2) c) in
+      let p2 = puts_more (9 ∷ side ++ (9 ∷ [])) p1 (simp length-append (omega arith)) (e2 ∙ ap (λ (l : List ℕ). written_at o1 n1 (9 ∷ l ++ (9 ∷ []))) c) in
+      let p3 = puts_more (hex_byte cid) (subst (λ (l : List ℕ). Puts out to l n2 o2) apart p2) (simp length-append (omega arith)) e3 in
       let p4 = puts_more (9 ∷ []) p3 (simp length-append (omega arith)) e4 in
-      let p5 = puts_more (hex_byte cid) p4 (simp length-append (omega arith)) e5 in
+      let p5 = puts_more (ascii (name_of rules cid)) p4 (simp length-append (omega arith)) e5 in
       let p6 = puts_more (9 ∷ []) p5 (simp length-append (omega arith)) e6 in
-      let p7 = puts_more (ascii (name_of rules cid)) p6 (simp length-append (omega arith)) e7 in
-      let p8 = puts_more (9 ∷ []) p7 (simp length-append (omega arith)) e8 in
-      written_of p8
+      written_of p6
 
   pub before_room : (body : List ℕ) → to + length (line (command_line rules (placed at cid body))) ≤ length out → to + length (before rules at cid) ≤ length out
   before_room body h = omega (arith, before_long rules at cid, command_long rules at cid body)

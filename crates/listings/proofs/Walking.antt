@@ -2,22 +2,29 @@
 use Prim.Native.Nat.{ℕ, ◌+◌, ◌-◌, ◌<◌, ◌≤◌}
 use mathlib.Core.List.{List, [], ◌++◌, map, append-nil, append_assoc}
 use mathlib.Core.Option.{some}
-use mathlib.Core.Path.{◌≡◌, refl, sym, ap, ◌∙◌, subst}
+use mathlib.Core.Logic.{◌⊎◌, inl, inr}
+use mathlib.Core.Path.{◌≡◌, refl, sym, ap, ap₂, ◌∙◌, subst}
 use native.Mathlib.Omega.{arith}
 use lib.ListN.{length, drop, length-append}
 use Rattle.bits.proofs.Memory.{Left, Puts, puts_length, puts_more, puts_none, written_of}
 use Rattle.table.specs.Answers.{Answer, given, refused}
+use Rattle.table.specs.declared.refusal.Refusal.{Refusal}
 use Rattle.table.specs.declared.rules.Rules.{Rules}
+use Rattle.table.specs.Refusals.{number_of}
 use Rattle.table.specs.Table.{length_of}
 use Rattle.text.specs.Lines.{Line, line, text}
 use Rattle.text.proofs.Decimals.{decimal_some}
 use Rattle.walk.specs.Step.{Found, ended, command, stopped, first_of, found_at, Heading, heading, in_numbers, step_at}
-use Rattle.walk.specs.Walk.{Cmd, Ending, end, stop, place_of, walk_from}
+use Rattle.walk.specs.declared.step.Step.{Step}
+use Rattle.walk.specs.Told.{told_step}
+use Rattle.walk.specs.Walk.{Cmd, Placed, Ending, end, stop, place_of, walk_from}
 use Rattle.walk.proofs.Laws.{ends_at, walk_ends}
 use Rattle.walk.proofs.Steps.{Goes, Here, past, ends, goes, here, walk_goes, found_ends, found_goes, found_command, goes_body, command_told}
 use Rattle.listings.specs.Into.{length_within}
 use Rattle.listings.specs.Listing.{lines_of, command_line, last_line, in_frame, printed, listing_of}
+use Rattle.listings.specs.declared.command.Command.{Command}
 use Rattle.listings.specs.Passes.{body_at, step_line, Stands}
+use Rattle.listings.specs.Shown.{line_of}
 use Rattle.listings.proofs.Into.{too_long, fits_in}
 use Rattle.listings.proofs.Lining.{command_long, end_long, frame_long, stamp_long, stop_long}
 
@@ -38,6 +45,23 @@ module _ (rules : Rules) (s : List ℕ) where
       let b = g.behind in
       record { known = sym (ap (length_of rules) cid_is) ∙ g.known ∙ ap some len_is; fits = omega arith }
 
+-- ---- the line of a step, by what it is
+
+module _ (rules : Rules) (s : List ℕ) (at : ℕ) where
+  pub command_shown : {f : Step} {cid len next : ℕ} → f ≡ Step.Command cid len next
+      → (c : Command) → c.rules ≡ rules → c.at ≡ at → c.cid ≡ cid → c.payload.now ≡ body_at s at len → step_line rules s at (told_step f) ≡ line_of c
+  command_shown e c r a i b =
+      ap (λ (f : Step). step_line rules s at (told_step f)) e
+      ∙ sym (ap₂ (λ (x : Rules) (p : Placed). command_line x p) r
+      (ap₂ (λ (k : ℕ) (d : Cmd). record { at = k; cmd = d }) a (ap₂ (λ (k : ℕ) (l : List ℕ). record { cid = k; body = l }) i b)))
+
+  pub end_shown : {f : Step} → (f ≡ Step.End) ⊎ ((r : Refusal) × (f ≡ Step.Refused r)) → step_line rules s at (told_step f) ≡ last_line (end at)
+  end_shown (inl e) = ap (λ (f : Step). step_line rules s at (told_step f)) e
+  end_shown (inr x) = ap (λ (f : Step). step_line rules s at (told_step f)) x.1
+
+  pub stop_shown : {f : Step} {r : Refusal} {o : ℕ} → f ≡ Step.Stop r o → step_line rules s at (told_step f) ≡ last_line (stop (number_of r) at)
+  stop_shown e = ap (λ (f : Step). step_line rules s at (told_step f)) e
+
 -- ---- any step
 
 module _ (rules : Rules) (frame : ℕ) (s : List ℕ) where
@@ -55,6 +79,13 @@ module _ (rules : Rules) (frame : ℕ) (s : List ℕ) where
   rest_after (given ended) = []
   rest_after (given (stopped n o)) = []
   rest_after (refused n) = []
+
+  -- nothing behind a step with no command
+  pub rest_none : (f : Step) → ((cid len next : ℕ) → f ≡ Step.Command cid len next → ⊥) → rest_after (told_step f) ≡ []
+  rest_none (Step.Command cid len next) h = absurd (h cid len next refl)
+  rest_none Step.End h = refl
+  rest_none (Step.Stop r o) h = refl
+  rest_none (Step.Refused r) h = refl
 
   pub rest_parts : (at : ℕ) → at ≤ length s → rest at ≡ step_text at (step_at (length_of rules) s at) ++ rest_after (step_at (length_of rules) s at)
   unfolding text lines_of

@@ -1,9 +1,8 @@
 -- What the answers of this crate tell, in the numbers and values of docs/RULES.md (M11).
-use Rattle.std.specs.Prelude.{ℕ}
-use Rattle.table.specs.Answers.{Answer, given, refused}
-use Rattle.table.specs.Refusals.{number_of}
-use Rattle.listings.specs.declared.ListingAnswer.{ListingAnswer}
+use Rattle.std.specs.Prelude.{ℕ, Result}
+use Rattle.table.specs.Answers.{Answer}
+use Rattle.table.specs.Told.{told}
+use Rattle.table.specs.declared.refusal.Refusal.{Refusal}
 
-abbrev pub told_listing : ListingAnswer → Answer ℕ
-told_listing (ListingAnswer.Total n) = given n
-told_listing (ListingAnswer.Refused r) = refused (number_of r)
+abbrev pub told_listing : Result ℕ Refusal → Answer ℕ
+told_listing r = told (λ n. n) r

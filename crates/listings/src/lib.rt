@@ -2,16 +2,8 @@
 // room for all of it, it is written line by line.
 #![tactic(auto)]
 
-use table::Refusal;
-
+mod command;
 mod line;
 pub mod passes;
 
 pub use passes::{listing_len, write_listing};
-
-// The text's length, or a refusal.
-#[derive(Clone, Copy)]
-pub enum ListingAnswer {
-    Total(usize),
-    Refused(Refusal),
-}

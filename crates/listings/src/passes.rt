@@ -1,16 +1,18 @@
-// The two passes over a stream: the text's length, and the text.
+// The two passes over a stream: the text's length, and the text. Two loops, and no closure for what is done at a step: each has an invariant of its own.
+// Nor is there an iterator over the steps: the invariants speak of the offset, and the last step, an end or a stop, is listed too. Rules and stream are two
+// parameters, as the public functions below are asked for.
 ghost use Rattle.std.specs.Prelude.{◌≡◌, ◌≤◌, length};
 ghost use Rattle.bits.specs.Memory.{written_at};
 ghost use Rattle.listings.specs.Into.{largest, length_within, into};
 ghost use Rattle.listings.specs.Listing.{listing_of};
 ghost use Rattle.listings.specs.Told.{told_listing};
 
-use crate::ListingAnswer;
 use crate::line::{line_len, put_line, stamp_len};
 use table::{Refusal, Rules};
 use walk::{Step, step_at};
 
-fn measure(rules: Rules, frame: u32, stream: &[u8], room: usize) -> ListingAnswer
+#[tactic(auto, using(crate::proofs::Lining::stamp_few))]
+fn measure(rules: Rules, frame: u32, stream: &[u8], room: usize) -> Result<usize, Refusal>
     ensures { told_listing result ≡ length_within room (listing_of rules frame stream.now) }
 {
     let stamp = stamp_len(frame);
@@ -20,21 +22,13 @@ fn measure(rules: Rules, frame: u32, stream: &[u8], room: usize) -> ListingAnswe
         let found = step_at(rules, stream, at);
         let len = stamp + line_len(rules, stream, at, found);
         if room - sum < len {
-            break ListingAnswer::Refused(Refusal::BufferTooShort);
+            break Err(Refusal::BufferTooShort);
         }
         sum += len;
-        match found {
-            Step::Command {
-                cid: _,
-                len: _,
-                next,
-            } => {
-                at = next;
-            }
-            Step::End => break ListingAnswer::Total(sum),
-            Step::Stop { reason: _, at: _ } => break ListingAnswer::Total(sum),
-            Step::Refused(_) => break ListingAnswer::Total(sum),
-        }
+        let Step::Command { next, .. } = found else {
+            break Ok(sum);
+        };
+        at = next;
     }
 }
 
@@ -48,23 +42,15 @@ fn write_lines(rules: Rules, frame: u32, stream: &[u8], out: &mut [u8]) -> usize
     loop {
         let found = step_at(rules, stream, at);
         to = put_line(rules, frame, out, to, stream, at, found);
-        match found {
-            Step::Command {
-                cid: _,
-                len: _,
-                next,
-            } => {
-                at = next;
-            }
-            Step::End => break to,
-            Step::Stop { reason: _, at: _ } => break to,
-            Step::Refused(_) => break to,
-        }
+        let Step::Command { next, .. } = found else {
+            break to;
+        };
+        at = next;
     }
 }
 
 // The length of the listing of a stream in a frame, to size a buffer by. Of a text that is too long for any buffer it is a refusal.
-pub fn listing_len(rules: Rules, frame: u32, stream: &[u8]) -> ListingAnswer
+pub fn listing_len(rules: Rules, frame: u32, stream: &[u8]) -> Result<usize, Refusal>
     ensures { told_listing result ≡ length_within largest (listing_of rules frame stream.now) }
 {
     measure(rules, frame, stream, usize::MAX)
@@ -72,15 +58,15 @@ pub fn listing_len(rules: Rules, frame: u32, stream: &[u8]) -> ListingAnswer
 
 // Writes the listing of a stream in a frame at the front of lent memory, and answers its length. Where there is no room for all of it, nothing is
 // written.
-pub fn write_listing(rules: Rules, frame: u32, stream: &[u8], out: &mut [u8]) -> ListingAnswer
+#[tactic(auto, using(crate::proofs::Into::into_refused, crate::proofs::Into::fits_of))]
+pub fn write_listing(
+    rules: Rules,
+    frame: u32,
+    stream: &[u8],
+    out: &mut [u8],
+) -> Result<usize, Refusal>
     ensures { (told_listing result, out.new) ≡ into (listing_of rules frame stream.now) out.old }
 {
-    let measured = measure(rules, frame, stream, out.len());
-    match measured {
-        ListingAnswer::Refused(reason) => ListingAnswer::Refused(reason),
-        ListingAnswer::Total(_) => {
-            let total = write_lines(rules, frame, stream, out);
-            ListingAnswer::Total(total)
-        }
-    }
+    measure(rules, frame, stream, out.len())?;
+    Ok(write_lines(rules, frame, stream, out))
 }

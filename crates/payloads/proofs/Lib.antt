@@ -1,4 +1,5 @@
 pub mod Commands
 pub mod Determined
 pub mod Low
+pub mod Room
 pub mod Told

@@ -2,4 +2,3 @@ pub mod Acceptance
 pub mod Bytes
 pub mod Commands
 pub mod Meanings
-pub mod Told

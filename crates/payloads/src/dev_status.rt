@@ -1,41 +1,41 @@
 ghost use Rattle.std.specs.Prelude.{◌≡◌};
-ghost use Rattle.table.specs.Table.{named, flag_of};
+ghost use Rattle.table.specs.Table.{named};
+ghost use Rattle.table.specs.Told.{told};
 ghost use Rattle.fields.specs.Lists.{exactly};
 ghost use Rattle.fields.specs.Places.{number_at, dev_status_ans_battery};
 ghost use Rattle.payloads.specs.Bytes.{dev_status_ans_bytes, dev_status_req_bytes};
 ghost use Rattle.payloads.specs.Meanings.{margin_of};
-ghost use Rattle.payloads.specs.Told.{told_dev_status_ans};
 
+use crate::command_type::CommandType;
+use crate::payload_bytes::sized;
 use table::Refusal;
 
 // Asks for the status of the device.
-#[derive(Clone, Copy)]
+#[derive(Clone, Copy, PartialEq, Eq)]
 pub struct DevStatusReqPayload();
 
-impl DevStatusReqPayload {
-    // Any slice, of which nothing is kept.
-    pub fn new(_data: &[u8]) -> DevStatusReqPayload
-        ensures { result ≡ record {} }
-    {
-        DevStatusReqPayload()
-    }
+impl CommandType for DevStatusReqPayload {
+    ghost command = { named "DevStatusReq" };
 
-    pub fn cid() -> u8
-        ensures { result ≡ (named "DevStatusReq").cid }
-    {
+    fn cid() -> u8 {
         0x06
     }
 
-    pub fn uplink() -> bool
-        ensures { result ≡ flag_of (named "DevStatusReq") }
-    {
+    fn uplink() -> bool {
         false
     }
 
-    pub fn len() -> usize
-        ensures { result ≡ (named "DevStatusReq").size }
-    {
+    fn len() -> usize {
         0
+    }
+}
+
+impl DevStatusReqPayload {
+    // Any slice, of which nothing is kept.
+    pub fn new(_data: &[u8]) -> Self
+        ensures { result ≡ record {} }
+    {
+        Self()
     }
 
     pub fn bytes(self) -> [u8; 0]
@@ -46,42 +46,31 @@ impl DevStatusReqPayload {
 }
 
 // Tells the status of the device.
-#[derive(Clone, Copy)]
+#[derive(Clone, Copy, PartialEq, Eq)]
 pub struct DevStatusAnsPayload(pub u8, pub u8);
 
-#[derive(Clone, Copy)]
-pub enum DevStatusAnsAnswer {
-    Read(DevStatusAnsPayload),
-    Refused(Refusal),
-}
+impl CommandType for DevStatusAnsPayload {
+    ghost command = { named "DevStatusAns" };
 
-impl DevStatusAnsPayload {
-    pub fn new(data: &[u8]) -> DevStatusAnsAnswer
-        ensures { told_dev_status_ans result ≡ exactly (named "DevStatusAns").size «data».now }
-    {
-        if data.len() == 2 {
-            DevStatusAnsAnswer::Read(DevStatusAnsPayload(data[0], data[1]))
-        } else {
-            DevStatusAnsAnswer::Refused(Refusal::WrongLength)
-        }
-    }
-
-    pub fn cid() -> u8
-        ensures { result ≡ (named "DevStatusAns").cid }
-    {
+    fn cid() -> u8 {
         0x06
     }
 
-    pub fn uplink() -> bool
-        ensures { result ≡ flag_of (named "DevStatusAns") }
-    {
+    fn uplink() -> bool {
         true
     }
 
-    pub fn len() -> usize
-        ensures { result ≡ (named "DevStatusAns").size }
-    {
+    fn len() -> usize {
         2
+    }
+}
+
+impl DevStatusAnsPayload {
+    pub fn new(data: &[u8]) -> Result<Self, Refusal>
+        ensures { told dev_status_ans_bytes result ≡ exactly (named "DevStatusAns").size «data».now }
+    {
+        let [a, b]: [u8; 2] = sized(data)?;
+        Ok(Self(a, b))
     }
 
     pub fn bytes(self) -> [u8; 2]

@@ -1,40 +1,40 @@
-ghost use Rattle.std.specs.Prelude.{[], ◌∷◌, ◌≡◌};
-ghost use Rattle.table.specs.Table.{named, flag_of};
-ghost use Rattle.fields.specs.Lists.{exactly, low_first};
+ghost use Rattle.std.specs.Prelude.{◌≡◌};
+ghost use Rattle.table.specs.Table.{named};
+ghost use Rattle.table.specs.Told.{told};
+ghost use Rattle.fields.specs.Lists.{exactly};
 ghost use Rattle.payloads.specs.Bytes.{device_time_ans_bytes, device_time_req_bytes};
 ghost use Rattle.payloads.specs.Meanings.{nano_seconds_of, seconds_of};
-ghost use Rattle.payloads.specs.Told.{told_device_time_ans};
 
+use crate::command_type::CommandType;
+use crate::payload_bytes::sized;
 use table::Refusal;
 
 // Asks for the network time.
-#[derive(Clone, Copy)]
+#[derive(Clone, Copy, PartialEq, Eq)]
 pub struct DeviceTimeReqPayload();
 
-impl DeviceTimeReqPayload {
-    // Any slice, of which nothing is kept.
-    pub fn new(_data: &[u8]) -> DeviceTimeReqPayload
-        ensures { result ≡ record {} }
-    {
-        DeviceTimeReqPayload()
-    }
+impl CommandType for DeviceTimeReqPayload {
+    ghost command = { named "DeviceTimeReq" };
 
-    pub fn cid() -> u8
-        ensures { result ≡ (named "DeviceTimeReq").cid }
-    {
+    fn cid() -> u8 {
         0x0D
     }
 
-    pub fn uplink() -> bool
-        ensures { result ≡ flag_of (named "DeviceTimeReq") }
-    {
+    fn uplink() -> bool {
         true
     }
 
-    pub fn len() -> usize
-        ensures { result ≡ (named "DeviceTimeReq").size }
-    {
+    fn len() -> usize {
         0
+    }
+}
+
+impl DeviceTimeReqPayload {
+    // Any slice, of which nothing is kept.
+    pub fn new(_data: &[u8]) -> Self
+        ensures { result ≡ record {} }
+    {
+        Self()
     }
 
     pub fn bytes(self) -> [u8; 0]
@@ -44,52 +44,32 @@ impl DeviceTimeReqPayload {
     }
 }
 
-// The number that four bytes make, low byte first.
-fn low_first(a: u8, b: u8, c: u8, d: u8) -> u32
-    ensures { result ≡ low_first (a ∷ b ∷ c ∷ d ∷ []) }
-{
-    (a as u32) + 256 * (b as u32) + 65536 * (c as u32) + 16777216 * (d as u32)
-}
-
 // Tells the network time: the seconds, and steps of 1/256 second.
-#[derive(Clone, Copy)]
+#[derive(Clone, Copy, PartialEq, Eq)]
 pub struct DeviceTimeAnsPayload(pub u8, pub u8, pub u8, pub u8, pub u8);
 
-#[derive(Clone, Copy)]
-pub enum DeviceTimeAnsAnswer {
-    Read(DeviceTimeAnsPayload),
-    Refused(Refusal),
-}
+impl CommandType for DeviceTimeAnsPayload {
+    ghost command = { named "DeviceTimeAns" };
 
-impl DeviceTimeAnsPayload {
-    pub fn new(data: &[u8]) -> DeviceTimeAnsAnswer
-        ensures { told_device_time_ans result ≡ exactly (named "DeviceTimeAns").size «data».now }
-    {
-        if data.len() == 5 {
-            DeviceTimeAnsAnswer::Read(DeviceTimeAnsPayload(
-                data[0], data[1], data[2], data[3], data[4],
-            ))
-        } else {
-            DeviceTimeAnsAnswer::Refused(Refusal::WrongLength)
-        }
-    }
-
-    pub fn cid() -> u8
-        ensures { result ≡ (named "DeviceTimeAns").cid }
-    {
+    fn cid() -> u8 {
         0x0D
     }
 
-    pub fn uplink() -> bool
-        ensures { result ≡ flag_of (named "DeviceTimeAns") }
-    {
+    fn uplink() -> bool {
         false
     }
 
-    pub fn len() -> usize
-        ensures { result ≡ (named "DeviceTimeAns").size }
-    {
+    fn len() -> usize {
         5
+    }
+}
+
+impl DeviceTimeAnsPayload {
+    pub fn new(data: &[u8]) -> Result<Self, Refusal>
+        ensures { told device_time_ans_bytes result ≡ exactly (named "DeviceTimeAns").size «data».now }
+    {
+        let [a, b, c, d, e]: [u8; 5] = sized(data)?;
+        Ok(Self(a, b, c, d, e))
     }
 
     pub fn bytes(self) -> [u8; 5]
@@ -102,7 +82,7 @@ impl DeviceTimeAnsPayload {
     pub fn seconds(self) -> u32
         ensures { result ≡ seconds_of (device_time_ans_bytes self) }
     {
-        low_first(self.0, self.1, self.2, self.3)
+        u32::from_le_bytes([self.0, self.1, self.2, self.3])
     }
 
     // The rest of the network time.

@@ -1,52 +1,43 @@
 ghost use Rattle.std.specs.Prelude.{◌≡◌};
-ghost use Rattle.table.specs.Table.{named, flag_of};
+ghost use Rattle.table.specs.Table.{named};
+ghost use Rattle.table.specs.Told.{told};
 ghost use Rattle.fields.specs.Frequency.{bytes_of};
 ghost use Rattle.fields.specs.Lists.{exactly};
 ghost use Rattle.fields.specs.Places.{bytes_at, number_at, yes_at, dl_channel_ans_channel_freq_ack, dl_channel_ans_uplink_freq_ack, dl_channel_req_channel_index, dl_channel_req_frequency};
 ghost use Rattle.payloads.specs.Acceptance.{dl_channel_ans_accepts};
 ghost use Rattle.payloads.specs.Bytes.{dl_channel_ans_bytes, dl_channel_req_bytes};
-ghost use Rattle.payloads.specs.Told.{told_dl_channel_ans, told_dl_channel_req};
 
+use crate::command_type::CommandType;
+use crate::payload_bytes::sized;
 use fields::Frequency;
 use table::Refusal;
 
 // Sets the downlink frequency of a channel.
-#[derive(Clone, Copy)]
+#[derive(Clone, Copy, PartialEq, Eq)]
 pub struct DlChannelReqPayload(pub u8, pub u8, pub u8, pub u8);
 
-#[derive(Clone, Copy)]
-pub enum DlChannelReqAnswer {
-    Read(DlChannelReqPayload),
-    Refused(Refusal),
-}
+impl CommandType for DlChannelReqPayload {
+    ghost command = { named "DlChannelReq" };
 
-impl DlChannelReqPayload {
-    pub fn new(data: &[u8]) -> DlChannelReqAnswer
-        ensures { told_dl_channel_req result ≡ exactly (named "DlChannelReq").size «data».now }
-    {
-        if data.len() == 4 {
-            DlChannelReqAnswer::Read(DlChannelReqPayload(data[0], data[1], data[2], data[3]))
-        } else {
-            DlChannelReqAnswer::Refused(Refusal::WrongLength)
-        }
-    }
-
-    pub fn cid() -> u8
-        ensures { result ≡ (named "DlChannelReq").cid }
-    {
+    fn cid() -> u8 {
         0x0A
     }
 
-    pub fn uplink() -> bool
-        ensures { result ≡ flag_of (named "DlChannelReq") }
-    {
+    fn uplink() -> bool {
         false
     }
 
-    pub fn len() -> usize
-        ensures { result ≡ (named "DlChannelReq").size }
-    {
+    fn len() -> usize {
         4
+    }
+}
+
+impl DlChannelReqPayload {
+    pub fn new(data: &[u8]) -> Result<Self, Refusal>
+        ensures { told dl_channel_req_bytes result ≡ exactly (named "DlChannelReq").size «data».now }
+    {
+        let [a, b, c, d]: [u8; 4] = sized(data)?;
+        Ok(Self(a, b, c, d))
     }
 
     pub fn bytes(self) -> [u8; 4]
@@ -71,42 +62,31 @@ impl DlChannelReqPayload {
 }
 
 // Tells which parts of a DlChannelReq the device applied.
-#[derive(Clone, Copy)]
+#[derive(Clone, Copy, PartialEq, Eq)]
 pub struct DlChannelAnsPayload(pub u8);
 
-#[derive(Clone, Copy)]
-pub enum DlChannelAnsAnswer {
-    Read(DlChannelAnsPayload),
-    Refused(Refusal),
-}
+impl CommandType for DlChannelAnsPayload {
+    ghost command = { named "DlChannelAns" };
 
-impl DlChannelAnsPayload {
-    pub fn new(data: &[u8]) -> DlChannelAnsAnswer
-        ensures { told_dl_channel_ans result ≡ exactly (named "DlChannelAns").size «data».now }
-    {
-        if data.len() == 1 {
-            DlChannelAnsAnswer::Read(DlChannelAnsPayload(data[0]))
-        } else {
-            DlChannelAnsAnswer::Refused(Refusal::WrongLength)
-        }
-    }
-
-    pub fn cid() -> u8
-        ensures { result ≡ (named "DlChannelAns").cid }
-    {
+    fn cid() -> u8 {
         0x0A
     }
 
-    pub fn uplink() -> bool
-        ensures { result ≡ flag_of (named "DlChannelAns") }
-    {
+    fn uplink() -> bool {
         true
     }
 
-    pub fn len() -> usize
-        ensures { result ≡ (named "DlChannelAns").size }
-    {
+    fn len() -> usize {
         1
+    }
+}
+
+impl DlChannelAnsPayload {
+    pub fn new(data: &[u8]) -> Result<Self, Refusal>
+        ensures { told dl_channel_ans_bytes result ≡ exactly (named "DlChannelAns").size «data».now }
+    {
+        let [a]: [u8; 1] = sized(data)?;
+        Ok(Self(a))
     }
 
     pub fn bytes(self) -> [u8; 1]

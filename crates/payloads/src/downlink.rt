@@ -2,6 +2,7 @@ ghost use Rattle.std.specs.Prelude.{◌≡◌};
 ghost use Rattle.table.specs.Table.{flag_of};
 ghost use Rattle.payloads.specs.Commands.{downlink_entry, downlink_bytes, in_five};
 
+use crate::command_type::CommandType;
 use crate::dev_status::DevStatusReqPayload;
 use crate::device_time::DeviceTimeAnsPayload;
 use crate::dl_channel::DlChannelReqPayload;
@@ -15,7 +16,7 @@ use crate::rx_timing_setup::RXTimingSetupReqPayload;
 use crate::tx_param_setup::TXParamSetupReqPayload;
 
 // A command that the network sends.
-#[derive(Clone, Copy)]
+#[derive(Clone, Copy, PartialEq, Eq)]
 pub enum DownlinkMacCommand {
     LinkCheckAns(LinkCheckAnsPayload),
     LinkADRReq(LinkADRReqPayload),
@@ -29,21 +30,23 @@ pub enum DownlinkMacCommand {
     DeviceTimeAns(DeviceTimeAnsPayload),
 }
 
+// UplinkMacCommand has the same four methods. A trait of both would be possible. It was left: its impls would repeat every arm below, or call these
+// methods, and both types stand in public signatures.
 impl DownlinkMacCommand {
     pub fn len(self) -> usize
         ensures { result ≡ (downlink_entry self).size }
     {
         match self {
-            DownlinkMacCommand::LinkCheckAns(_) => 2,
-            DownlinkMacCommand::LinkADRReq(_) => 4,
-            DownlinkMacCommand::DutyCycleReq(_) => 1,
-            DownlinkMacCommand::RXParamSetupReq(_) => 4,
-            DownlinkMacCommand::DevStatusReq(_) => 0,
-            DownlinkMacCommand::NewChannelReq(_) => 5,
-            DownlinkMacCommand::RXTimingSetupReq(_) => 1,
-            DownlinkMacCommand::TXParamSetupReq(_) => 1,
-            DownlinkMacCommand::DlChannelReq(_) => 4,
-            DownlinkMacCommand::DeviceTimeAns(_) => 5,
+            DownlinkMacCommand::LinkCheckAns(_) => LinkCheckAnsPayload::len(),
+            DownlinkMacCommand::LinkADRReq(_) => LinkADRReqPayload::len(),
+            DownlinkMacCommand::DutyCycleReq(_) => DutyCycleReqPayload::len(),
+            DownlinkMacCommand::RXParamSetupReq(_) => RXParamSetupReqPayload::len(),
+            DownlinkMacCommand::DevStatusReq(_) => DevStatusReqPayload::len(),
+            DownlinkMacCommand::NewChannelReq(_) => NewChannelReqPayload::len(),
+            DownlinkMacCommand::RXTimingSetupReq(_) => RXTimingSetupReqPayload::len(),
+            DownlinkMacCommand::TXParamSetupReq(_) => TXParamSetupReqPayload::len(),
+            DownlinkMacCommand::DlChannelReq(_) => DlChannelReqPayload::len(),
+            DownlinkMacCommand::DeviceTimeAns(_) => DeviceTimeAnsPayload::len(),
         }
     }
 
@@ -57,16 +60,16 @@ impl DownlinkMacCommand {
         ensures { result ≡ (downlink_entry self).cid }
     {
         match self {
-            DownlinkMacCommand::LinkCheckAns(_) => 0x02,
-            DownlinkMacCommand::LinkADRReq(_) => 0x03,
-            DownlinkMacCommand::DutyCycleReq(_) => 0x04,
-            DownlinkMacCommand::RXParamSetupReq(_) => 0x05,
-            DownlinkMacCommand::DevStatusReq(_) => 0x06,
-            DownlinkMacCommand::NewChannelReq(_) => 0x07,
-            DownlinkMacCommand::RXTimingSetupReq(_) => 0x08,
-            DownlinkMacCommand::TXParamSetupReq(_) => 0x09,
-            DownlinkMacCommand::DlChannelReq(_) => 0x0A,
-            DownlinkMacCommand::DeviceTimeAns(_) => 0x0D,
+            DownlinkMacCommand::LinkCheckAns(_) => LinkCheckAnsPayload::cid(),
+            DownlinkMacCommand::LinkADRReq(_) => LinkADRReqPayload::cid(),
+            DownlinkMacCommand::DutyCycleReq(_) => DutyCycleReqPayload::cid(),
+            DownlinkMacCommand::RXParamSetupReq(_) => RXParamSetupReqPayload::cid(),
+            DownlinkMacCommand::DevStatusReq(_) => DevStatusReqPayload::cid(),
+            DownlinkMacCommand::NewChannelReq(_) => NewChannelReqPayload::cid(),
+            DownlinkMacCommand::RXTimingSetupReq(_) => RXTimingSetupReqPayload::cid(),
+            DownlinkMacCommand::TXParamSetupReq(_) => TXParamSetupReqPayload::cid(),
+            DownlinkMacCommand::DlChannelReq(_) => DlChannelReqPayload::cid(),
+            DownlinkMacCommand::DeviceTimeAns(_) => DeviceTimeAnsPayload::cid(),
         }
     }
 
@@ -74,46 +77,16 @@ impl DownlinkMacCommand {
         ensures { (result.len, result.bytes) ≡ in_five (downlink_bytes self) }
     {
         match self {
-            DownlinkMacCommand::LinkCheckAns(p) => PayloadBytes {
-                len: 2,
-                bytes: [p.0, p.1, 0, 0, 0],
-            },
-            DownlinkMacCommand::LinkADRReq(p) => PayloadBytes {
-                len: 4,
-                bytes: [p.0, p.1, p.2, p.3, 0],
-            },
-            DownlinkMacCommand::DutyCycleReq(p) => PayloadBytes {
-                len: 1,
-                bytes: [p.0, 0, 0, 0, 0],
-            },
-            DownlinkMacCommand::RXParamSetupReq(p) => PayloadBytes {
-                len: 4,
-                bytes: [p.0, p.1, p.2, p.3, 0],
-            },
-            DownlinkMacCommand::DevStatusReq(_) => PayloadBytes {
-                len: 0,
-                bytes: [0; 5],
-            },
-            DownlinkMacCommand::NewChannelReq(p) => PayloadBytes {
-                len: 5,
-                bytes: [p.0, p.1, p.2, p.3, p.4],
-            },
-            DownlinkMacCommand::RXTimingSetupReq(p) => PayloadBytes {
-                len: 1,
-                bytes: [p.0, 0, 0, 0, 0],
-            },
-            DownlinkMacCommand::TXParamSetupReq(p) => PayloadBytes {
-                len: 1,
-                bytes: [p.0, 0, 0, 0, 0],
-            },
-            DownlinkMacCommand::DlChannelReq(p) => PayloadBytes {
-                len: 4,
-                bytes: [p.0, p.1, p.2, p.3, 0],
-            },
-            DownlinkMacCommand::DeviceTimeAns(p) => PayloadBytes {
-                len: 5,
-                bytes: [p.0, p.1, p.2, p.3, p.4],
-            },
+            DownlinkMacCommand::LinkCheckAns(p) => PayloadBytes::of(p.bytes()),
+            DownlinkMacCommand::LinkADRReq(p) => PayloadBytes::of(p.bytes()),
+            DownlinkMacCommand::DutyCycleReq(p) => PayloadBytes::of(p.bytes()),
+            DownlinkMacCommand::RXParamSetupReq(p) => PayloadBytes::of(p.bytes()),
+            DownlinkMacCommand::DevStatusReq(p) => PayloadBytes::of(p.bytes()),
+            DownlinkMacCommand::NewChannelReq(p) => PayloadBytes::of(p.bytes()),
+            DownlinkMacCommand::RXTimingSetupReq(p) => PayloadBytes::of(p.bytes()),
+            DownlinkMacCommand::TXParamSetupReq(p) => PayloadBytes::of(p.bytes()),
+            DownlinkMacCommand::DlChannelReq(p) => PayloadBytes::of(p.bytes()),
+            DownlinkMacCommand::DeviceTimeAns(p) => PayloadBytes::of(p.bytes()),
         }
     }
 }

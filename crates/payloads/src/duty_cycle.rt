@@ -1,50 +1,41 @@
 ghost use Rattle.std.specs.Prelude.{◌≡◌};
-ghost use Rattle.table.specs.Table.{named, flag_of};
+ghost use Rattle.table.specs.Table.{named};
+ghost use Rattle.table.specs.Told.{told};
 ghost use Rattle.fields.specs.Lists.{exactly};
 ghost use Rattle.fields.specs.Places.{number_at, duty_cycle_req_max_duty_cycle};
 ghost use Rattle.payloads.specs.Bytes.{duty_cycle_ans_bytes, duty_cycle_req_bytes};
 ghost use Rattle.payloads.specs.Meanings.{max_duty_cycle_of};
-ghost use Rattle.payloads.specs.Told.{told_duty_cycle_req};
 
+use crate::command_type::CommandType;
+use crate::payload_bytes::sized;
 use table::Refusal;
 
 // Limits the part of the time in which the device may send.
-#[derive(Clone, Copy)]
+#[derive(Clone, Copy, PartialEq, Eq)]
 pub struct DutyCycleReqPayload(pub u8);
 
-#[derive(Clone, Copy)]
-pub enum DutyCycleReqAnswer {
-    Read(DutyCycleReqPayload),
-    Refused(Refusal),
-}
+impl CommandType for DutyCycleReqPayload {
+    ghost command = { named "DutyCycleReq" };
 
-impl DutyCycleReqPayload {
-    pub fn new(data: &[u8]) -> DutyCycleReqAnswer
-        ensures { told_duty_cycle_req result ≡ exactly (named "DutyCycleReq").size «data».now }
-    {
-        if data.len() == 1 {
-            DutyCycleReqAnswer::Read(DutyCycleReqPayload(data[0]))
-        } else {
-            DutyCycleReqAnswer::Refused(Refusal::WrongLength)
-        }
-    }
-
-    pub fn cid() -> u8
-        ensures { result ≡ (named "DutyCycleReq").cid }
-    {
+    fn cid() -> u8 {
         0x04
     }
 
-    pub fn uplink() -> bool
-        ensures { result ≡ flag_of (named "DutyCycleReq") }
-    {
+    fn uplink() -> bool {
         false
     }
 
-    pub fn len() -> usize
-        ensures { result ≡ (named "DutyCycleReq").size }
-    {
+    fn len() -> usize {
         1
+    }
+}
+
+impl DutyCycleReqPayload {
+    pub fn new(data: &[u8]) -> Result<Self, Refusal>
+        ensures { told duty_cycle_req_bytes result ≡ exactly (named "DutyCycleReq").size «data».now }
+    {
+        let [a]: [u8; 1] = sized(data)?;
+        Ok(Self(a))
     }
 
     pub fn bytes(self) -> [u8; 1]
@@ -70,33 +61,31 @@ impl DutyCycleReqPayload {
 }
 
 // Tells that a DutyCycleReq was received.
-#[derive(Clone, Copy)]
+#[derive(Clone, Copy, PartialEq, Eq)]
 pub struct DutyCycleAnsPayload();
 
-impl DutyCycleAnsPayload {
-    // Any slice, of which nothing is kept.
-    pub fn new(_data: &[u8]) -> DutyCycleAnsPayload
-        ensures { result ≡ record {} }
-    {
-        DutyCycleAnsPayload()
-    }
+impl CommandType for DutyCycleAnsPayload {
+    ghost command = { named "DutyCycleAns" };
 
-    pub fn cid() -> u8
-        ensures { result ≡ (named "DutyCycleAns").cid }
-    {
+    fn cid() -> u8 {
         0x04
     }
 
-    pub fn uplink() -> bool
-        ensures { result ≡ flag_of (named "DutyCycleAns") }
-    {
+    fn uplink() -> bool {
         true
     }
 
-    pub fn len() -> usize
-        ensures { result ≡ (named "DutyCycleAns").size }
-    {
+    fn len() -> usize {
         0
+    }
+}
+
+impl DutyCycleAnsPayload {
+    // Any slice, of which nothing is kept.
+    pub fn new(_data: &[u8]) -> Self
+        ensures { result ≡ record {} }
+    {
+        Self()
     }
 
     pub fn bytes(self) -> [u8; 0]

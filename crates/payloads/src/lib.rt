@@ -1,6 +1,7 @@
 // The payload of each command as a type of its own, with the readers of its fields, and the commands of each direction.
 #![tactic(auto)]
 
+pub mod command_type;
 pub mod dev_status;
 pub mod device_time;
 pub mod dl_channel;
@@ -15,24 +16,17 @@ pub mod rx_timing_setup;
 pub mod tx_param_setup;
 pub mod uplink;
 
-pub use dev_status::{DevStatusAnsAnswer, DevStatusAnsPayload, DevStatusReqPayload};
-pub use device_time::{DeviceTimeAnsAnswer, DeviceTimeAnsPayload, DeviceTimeReqPayload};
-pub use dl_channel::{
-    DlChannelAnsAnswer, DlChannelAnsPayload, DlChannelReqAnswer, DlChannelReqPayload,
-};
+pub use command_type::CommandType;
+pub use dev_status::{DevStatusAnsPayload, DevStatusReqPayload};
+pub use device_time::{DeviceTimeAnsPayload, DeviceTimeReqPayload};
+pub use dl_channel::{DlChannelAnsPayload, DlChannelReqPayload};
 pub use downlink::DownlinkMacCommand;
-pub use duty_cycle::{DutyCycleAnsPayload, DutyCycleReqAnswer, DutyCycleReqPayload};
-pub use link_adr::{LinkADRAnsAnswer, LinkADRAnsPayload, LinkADRReqAnswer, LinkADRReqPayload};
-pub use link_check::{LinkCheckAnsAnswer, LinkCheckAnsPayload, LinkCheckReqPayload};
-pub use new_channel::{
-    NewChannelAnsAnswer, NewChannelAnsPayload, NewChannelReqAnswer, NewChannelReqPayload,
-};
+pub use duty_cycle::{DutyCycleAnsPayload, DutyCycleReqPayload};
+pub use link_adr::{LinkADRAnsPayload, LinkADRReqPayload};
+pub use link_check::{LinkCheckAnsPayload, LinkCheckReqPayload};
+pub use new_channel::{NewChannelAnsPayload, NewChannelReqPayload};
 pub use payload_bytes::PayloadBytes;
-pub use rx_param_setup::{
-    RXParamSetupAnsAnswer, RXParamSetupAnsPayload, RXParamSetupReqAnswer, RXParamSetupReqPayload,
-};
-pub use rx_timing_setup::{
-    RXTimingSetupAnsPayload, RXTimingSetupReqAnswer, RXTimingSetupReqPayload,
-};
-pub use tx_param_setup::{TXParamSetupAnsPayload, TXParamSetupReqAnswer, TXParamSetupReqPayload};
+pub use rx_param_setup::{RXParamSetupAnsPayload, RXParamSetupReqPayload};
+pub use rx_timing_setup::{RXTimingSetupAnsPayload, RXTimingSetupReqPayload};
+pub use tx_param_setup::{TXParamSetupAnsPayload, TXParamSetupReqPayload};
 pub use uplink::UplinkMacCommand;

@@ -1,57 +1,50 @@
 ghost use Rattle.std.specs.Prelude.{◌≡◌};
-ghost use Rattle.table.specs.Table.{named, flag_of};
+ghost use Rattle.table.specs.Table.{named};
+ghost use Rattle.table.specs.Told.{told};
 ghost use Rattle.fields.specs.Lists.{exactly};
 ghost use Rattle.fields.specs.Places.{bytes_at, number_at, yes_at, link_adr_ans_channel_mask_ack, link_adr_ans_data_rate_ack, link_adr_ans_power_ack, link_adr_req_channel_mask, link_adr_req_data_rate, link_adr_req_redundancy, link_adr_req_tx_power};
 ghost use Rattle.payloads.specs.Acceptance.{link_adr_ans_accepts};
 ghost use Rattle.payloads.specs.Bytes.{link_adr_ans_bytes, link_adr_req_bytes};
-ghost use Rattle.payloads.specs.Told.{told_link_adr_ans, told_link_adr_req};
 
+use crate::command_type::CommandType;
+use crate::payload_bytes::sized;
 use fields::{ChannelMask2, Redundancy};
 use table::Refusal;
 
 // Sets the data rate, the power, the channels and the repetitions of the device.
-#[derive(Clone, Copy)]
+#[derive(Clone, Copy, PartialEq, Eq)]
 pub struct LinkADRReqPayload(pub u8, pub u8, pub u8, pub u8);
 
-#[derive(Clone, Copy)]
-pub enum LinkADRReqAnswer {
-    Read(LinkADRReqPayload),
-    Refused(Refusal),
-}
+impl CommandType for LinkADRReqPayload {
+    ghost command = { named "LinkADRReq" };
 
-impl LinkADRReqPayload {
-    pub fn new(data: &[u8]) -> LinkADRReqAnswer
-        ensures { told_link_adr_req result ≡ exactly (named "LinkADRReq").size «data».now }
-    {
-        if data.len() == 4 {
-            LinkADRReqAnswer::Read(LinkADRReqPayload(data[0], data[1], data[2], data[3]))
-        } else {
-            LinkADRReqAnswer::Refused(Refusal::WrongLength)
-        }
-    }
-
-    pub fn from(v: [u8; 4]) -> LinkADRReqPayload
-        ensures { link_adr_req_bytes result ≡ v }
-    {
-        LinkADRReqPayload(v[0], v[1], v[2], v[3])
-    }
-
-    pub fn cid() -> u8
-        ensures { result ≡ (named "LinkADRReq").cid }
-    {
+    fn cid() -> u8 {
         0x03
     }
 
-    pub fn uplink() -> bool
-        ensures { result ≡ flag_of (named "LinkADRReq") }
-    {
+    fn uplink() -> bool {
         false
     }
 
-    pub fn len() -> usize
-        ensures { result ≡ (named "LinkADRReq").size }
-    {
+    fn len() -> usize {
         4
+    }
+}
+
+impl From<[u8; 4]> for LinkADRReqPayload {
+    ghost from_gives = { λ v r. link_adr_req_bytes r ≡ v };
+
+    fn from([a, b, c, d]: [u8; 4]) -> Self {
+        LinkADRReqPayload(a, b, c, d)
+    }
+}
+
+impl LinkADRReqPayload {
+    pub fn new(data: &[u8]) -> Result<Self, Refusal>
+        ensures { told link_adr_req_bytes result ≡ exactly (named "LinkADRReq").size «data».now }
+    {
+        let [a, b, c, d]: [u8; 4] = sized(data)?;
+        Ok(Self(a, b, c, d))
     }
 
     pub fn bytes(self) -> [u8; 4]
@@ -90,42 +83,31 @@ impl LinkADRReqPayload {
 }
 
 // Tells which parts of a LinkADRReq the device applied.
-#[derive(Clone, Copy)]
+#[derive(Clone, Copy, PartialEq, Eq)]
 pub struct LinkADRAnsPayload(pub u8);
 
-#[derive(Clone, Copy)]
-pub enum LinkADRAnsAnswer {
-    Read(LinkADRAnsPayload),
-    Refused(Refusal),
-}
+impl CommandType for LinkADRAnsPayload {
+    ghost command = { named "LinkADRAns" };
 
-impl LinkADRAnsPayload {
-    pub fn new(data: &[u8]) -> LinkADRAnsAnswer
-        ensures { told_link_adr_ans result ≡ exactly (named "LinkADRAns").size «data».now }
-    {
-        if data.len() == 1 {
-            LinkADRAnsAnswer::Read(LinkADRAnsPayload(data[0]))
-        } else {
-            LinkADRAnsAnswer::Refused(Refusal::WrongLength)
-        }
-    }
-
-    pub fn cid() -> u8
-        ensures { result ≡ (named "LinkADRAns").cid }
-    {
+    fn cid() -> u8 {
         0x03
     }
 
-    pub fn uplink() -> bool
-        ensures { result ≡ flag_of (named "LinkADRAns") }
-    {
+    fn uplink() -> bool {
         true
     }
 
-    pub fn len() -> usize
-        ensures { result ≡ (named "LinkADRAns").size }
-    {
+    fn len() -> usize {
         1
+    }
+}
+
+impl LinkADRAnsPayload {
+    pub fn new(data: &[u8]) -> Result<Self, Refusal>
+        ensures { told link_adr_ans_bytes result ≡ exactly (named "LinkADRAns").size «data».now }
+    {
+        let [a]: [u8; 1] = sized(data)?;
+        Ok(Self(a))
     }
 
     pub fn bytes(self) -> [u8; 1]

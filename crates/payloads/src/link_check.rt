@@ -1,40 +1,40 @@
 ghost use Rattle.std.specs.Prelude.{◌≡◌};
-ghost use Rattle.table.specs.Table.{named, flag_of};
+ghost use Rattle.table.specs.Table.{named};
+ghost use Rattle.table.specs.Told.{told};
 ghost use Rattle.fields.specs.Lists.{exactly};
 ghost use Rattle.fields.specs.Places.{number_at, link_check_ans_gateway_count, link_check_ans_margin};
 ghost use Rattle.payloads.specs.Bytes.{link_check_ans_bytes, link_check_req_bytes};
-ghost use Rattle.payloads.specs.Told.{told_link_check_ans};
 
+use crate::command_type::CommandType;
+use crate::payload_bytes::sized;
 use table::Refusal;
 
 // Asks the network whether it hears the device.
-#[derive(Clone, Copy)]
+#[derive(Clone, Copy, PartialEq, Eq)]
 pub struct LinkCheckReqPayload();
 
-impl LinkCheckReqPayload {
-    // Any slice, of which nothing is kept.
-    pub fn new(_data: &[u8]) -> LinkCheckReqPayload
-        ensures { result ≡ record {} }
-    {
-        LinkCheckReqPayload()
-    }
+impl CommandType for LinkCheckReqPayload {
+    ghost command = { named "LinkCheckReq" };
 
-    pub fn cid() -> u8
-        ensures { result ≡ (named "LinkCheckReq").cid }
-    {
+    fn cid() -> u8 {
         0x02
     }
 
-    pub fn uplink() -> bool
-        ensures { result ≡ flag_of (named "LinkCheckReq") }
-    {
+    fn uplink() -> bool {
         true
     }
 
-    pub fn len() -> usize
-        ensures { result ≡ (named "LinkCheckReq").size }
-    {
+    fn len() -> usize {
         0
+    }
+}
+
+impl LinkCheckReqPayload {
+    // Any slice, of which nothing is kept.
+    pub fn new(_data: &[u8]) -> Self
+        ensures { result ≡ record {} }
+    {
+        Self()
     }
 
     pub fn bytes(self) -> [u8; 0]
@@ -45,48 +45,39 @@ impl LinkCheckReqPayload {
 }
 
 // Tells how well the network heard the LinkCheckReq.
-#[derive(Clone, Copy)]
+#[derive(Clone, Copy, PartialEq, Eq)]
 pub struct LinkCheckAnsPayload(pub u8, pub u8);
 
-#[derive(Clone, Copy)]
-pub enum LinkCheckAnsAnswer {
-    Read(LinkCheckAnsPayload),
-    Refused(Refusal),
-}
+impl CommandType for LinkCheckAnsPayload {
+    ghost command = { named "LinkCheckAns" };
 
-impl LinkCheckAnsPayload {
-    pub fn new(data: &[u8]) -> LinkCheckAnsAnswer
-        ensures { told_link_check_ans result ≡ exactly (named "LinkCheckAns").size «data».now }
-    {
-        if data.len() == 2 {
-            LinkCheckAnsAnswer::Read(LinkCheckAnsPayload(data[0], data[1]))
-        } else {
-            LinkCheckAnsAnswer::Refused(Refusal::WrongLength)
-        }
-    }
-
-    pub fn from(v: [u8; 2]) -> LinkCheckAnsPayload
-        ensures { link_check_ans_bytes result ≡ v }
-    {
-        LinkCheckAnsPayload(v[0], v[1])
-    }
-
-    pub fn cid() -> u8
-        ensures { result ≡ (named "LinkCheckAns").cid }
-    {
+    fn cid() -> u8 {
         0x02
     }
 
-    pub fn uplink() -> bool
-        ensures { result ≡ flag_of (named "LinkCheckAns") }
-    {
+    fn uplink() -> bool {
         false
     }
 
-    pub fn len() -> usize
-        ensures { result ≡ (named "LinkCheckAns").size }
-    {
+    fn len() -> usize {
         2
+    }
+}
+
+impl From<[u8; 2]> for LinkCheckAnsPayload {
+    ghost from_gives = { λ v r. link_check_ans_bytes r ≡ v };
+
+    fn from([a, b]: [u8; 2]) -> Self {
+        LinkCheckAnsPayload(a, b)
+    }
+}
+
+impl LinkCheckAnsPayload {
+    pub fn new(data: &[u8]) -> Result<Self, Refusal>
+        ensures { told link_check_ans_bytes result ≡ exactly (named "LinkCheckAns").size «data».now }
+    {
+        let [a, b]: [u8; 2] = sized(data)?;
+        Ok(Self(a, b))
     }
 
     pub fn bytes(self) -> [u8; 2]

@@ -1,54 +1,43 @@
 ghost use Rattle.std.specs.Prelude.{◌≡◌};
-ghost use Rattle.table.specs.Table.{named, flag_of};
+ghost use Rattle.table.specs.Table.{named};
+ghost use Rattle.table.specs.Told.{told};
 ghost use Rattle.fields.specs.Frequency.{bytes_of};
 ghost use Rattle.fields.specs.Lists.{exactly};
 ghost use Rattle.fields.specs.Places.{bytes_at, number_at, yes_at, new_channel_ans_channel_freq_ack, new_channel_ans_data_rate_range_ack, new_channel_req_channel_index, new_channel_req_data_rate_range, new_channel_req_frequency};
 ghost use Rattle.payloads.specs.Acceptance.{new_channel_ans_accepts};
 ghost use Rattle.payloads.specs.Bytes.{new_channel_ans_bytes, new_channel_req_bytes};
-ghost use Rattle.payloads.specs.Told.{told_new_channel_ans, told_new_channel_req};
 
+use crate::command_type::CommandType;
+use crate::payload_bytes::sized;
 use fields::{DataRateRange, Frequency};
 use table::Refusal;
 
 // Makes or changes a channel.
-#[derive(Clone, Copy)]
+#[derive(Clone, Copy, PartialEq, Eq)]
 pub struct NewChannelReqPayload(pub u8, pub u8, pub u8, pub u8, pub u8);
 
-#[derive(Clone, Copy)]
-pub enum NewChannelReqAnswer {
-    Read(NewChannelReqPayload),
-    Refused(Refusal),
-}
+impl CommandType for NewChannelReqPayload {
+    ghost command = { named "NewChannelReq" };
 
-impl NewChannelReqPayload {
-    pub fn new(data: &[u8]) -> NewChannelReqAnswer
-        ensures { told_new_channel_req result ≡ exactly (named "NewChannelReq").size «data».now }
-    {
-        if data.len() == 5 {
-            NewChannelReqAnswer::Read(NewChannelReqPayload(
-                data[0], data[1], data[2], data[3], data[4],
-            ))
-        } else {
-            NewChannelReqAnswer::Refused(Refusal::WrongLength)
-        }
-    }
-
-    pub fn cid() -> u8
-        ensures { result ≡ (named "NewChannelReq").cid }
-    {
+    fn cid() -> u8 {
         0x07
     }
 
-    pub fn uplink() -> bool
-        ensures { result ≡ flag_of (named "NewChannelReq") }
-    {
+    fn uplink() -> bool {
         false
     }
 
-    pub fn len() -> usize
-        ensures { result ≡ (named "NewChannelReq").size }
-    {
+    fn len() -> usize {
         5
+    }
+}
+
+impl NewChannelReqPayload {
+    pub fn new(data: &[u8]) -> Result<Self, Refusal>
+        ensures { told new_channel_req_bytes result ≡ exactly (named "NewChannelReq").size «data».now }
+    {
+        let [a, b, c, d, e]: [u8; 5] = sized(data)?;
+        Ok(Self(a, b, c, d, e))
     }
 
     pub fn bytes(self) -> [u8; 5]
@@ -80,42 +69,31 @@ impl NewChannelReqPayload {
 }
 
 // Tells which parts of a NewChannelReq the device applied.
-#[derive(Clone, Copy)]
+#[derive(Clone, Copy, PartialEq, Eq)]
 pub struct NewChannelAnsPayload(pub u8);
 
-#[derive(Clone, Copy)]
-pub enum NewChannelAnsAnswer {
-    Read(NewChannelAnsPayload),
-    Refused(Refusal),
-}
+impl CommandType for NewChannelAnsPayload {
+    ghost command = { named "NewChannelAns" };
 
-impl NewChannelAnsPayload {
-    pub fn new(data: &[u8]) -> NewChannelAnsAnswer
-        ensures { told_new_channel_ans result ≡ exactly (named "NewChannelAns").size «data».now }
-    {
-        if data.len() == 1 {
-            NewChannelAnsAnswer::Read(NewChannelAnsPayload(data[0]))
-        } else {
-            NewChannelAnsAnswer::Refused(Refusal::WrongLength)
-        }
-    }
-
-    pub fn cid() -> u8
-        ensures { result ≡ (named "NewChannelAns").cid }
-    {
+    fn cid() -> u8 {
         0x07
     }
 
-    pub fn uplink() -> bool
-        ensures { result ≡ flag_of (named "NewChannelAns") }
-    {
+    fn uplink() -> bool {
         true
     }
 
-    pub fn len() -> usize
-        ensures { result ≡ (named "NewChannelAns").size }
-    {
+    fn len() -> usize {
         1
+    }
+}
+
+impl NewChannelAnsPayload {
+    pub fn new(data: &[u8]) -> Result<Self, Refusal>
+        ensures { told new_channel_ans_bytes result ≡ exactly (named "NewChannelAns").size «data».now }
+    {
+        let [a]: [u8; 1] = sized(data)?;
+        Ok(Self(a))
     }
 
     pub fn bytes(self) -> [u8; 1]

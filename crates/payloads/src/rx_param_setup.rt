@@ -1,52 +1,43 @@
 ghost use Rattle.std.specs.Prelude.{◌≡◌};
-ghost use Rattle.table.specs.Table.{named, flag_of};
+ghost use Rattle.table.specs.Table.{named};
+ghost use Rattle.table.specs.Told.{told};
 ghost use Rattle.fields.specs.Frequency.{bytes_of};
 ghost use Rattle.fields.specs.Lists.{exactly};
 ghost use Rattle.fields.specs.Places.{bytes_at, number_at, yes_at, rx_param_setup_ans_channel_ack, rx_param_setup_ans_rx1_dr_offset_ack, rx_param_setup_ans_rx2_data_rate_ack, rx_param_setup_req_dl_settings, rx_param_setup_req_frequency};
 ghost use Rattle.payloads.specs.Acceptance.{rx_param_setup_ans_accepts};
 ghost use Rattle.payloads.specs.Bytes.{rx_param_setup_ans_bytes, rx_param_setup_req_bytes};
-ghost use Rattle.payloads.specs.Told.{told_rx_param_setup_ans, told_rx_param_setup_req};
 
+use crate::command_type::CommandType;
+use crate::payload_bytes::sized;
 use fields::{DLSettings, Frequency};
 use table::Refusal;
 
 // Sets the receive windows of the device.
-#[derive(Clone, Copy)]
+#[derive(Clone, Copy, PartialEq, Eq)]
 pub struct RXParamSetupReqPayload(pub u8, pub u8, pub u8, pub u8);
 
-#[derive(Clone, Copy)]
-pub enum RXParamSetupReqAnswer {
-    Read(RXParamSetupReqPayload),
-    Refused(Refusal),
-}
+impl CommandType for RXParamSetupReqPayload {
+    ghost command = { named "RXParamSetupReq" };
 
-impl RXParamSetupReqPayload {
-    pub fn new(data: &[u8]) -> RXParamSetupReqAnswer
-        ensures { told_rx_param_setup_req result ≡ exactly (named "RXParamSetupReq").size «data».now }
-    {
-        if data.len() == 4 {
-            RXParamSetupReqAnswer::Read(RXParamSetupReqPayload(data[0], data[1], data[2], data[3]))
-        } else {
-            RXParamSetupReqAnswer::Refused(Refusal::WrongLength)
-        }
-    }
-
-    pub fn cid() -> u8
-        ensures { result ≡ (named "RXParamSetupReq").cid }
-    {
+    fn cid() -> u8 {
         0x05
     }
 
-    pub fn uplink() -> bool
-        ensures { result ≡ flag_of (named "RXParamSetupReq") }
-    {
+    fn uplink() -> bool {
         false
     }
 
-    pub fn len() -> usize
-        ensures { result ≡ (named "RXParamSetupReq").size }
-    {
+    fn len() -> usize {
         4
+    }
+}
+
+impl RXParamSetupReqPayload {
+    pub fn new(data: &[u8]) -> Result<Self, Refusal>
+        ensures { told rx_param_setup_req_bytes result ≡ exactly (named "RXParamSetupReq").size «data».now }
+    {
+        let [a, b, c, d]: [u8; 4] = sized(data)?;
+        Ok(Self(a, b, c, d))
     }
 
     pub fn bytes(self) -> [u8; 4]
@@ -71,42 +62,31 @@ impl RXParamSetupReqPayload {
 }
 
 // Tells which parts of an RXParamSetupReq the device applied.
-#[derive(Clone, Copy)]
+#[derive(Clone, Copy, PartialEq, Eq)]
 pub struct RXParamSetupAnsPayload(pub u8);
 
-#[derive(Clone, Copy)]
-pub enum RXParamSetupAnsAnswer {
-    Read(RXParamSetupAnsPayload),
-    Refused(Refusal),
-}
+impl CommandType for RXParamSetupAnsPayload {
+    ghost command = { named "RXParamSetupAns" };
 
-impl RXParamSetupAnsPayload {
-    pub fn new(data: &[u8]) -> RXParamSetupAnsAnswer
-        ensures { told_rx_param_setup_ans result ≡ exactly (named "RXParamSetupAns").size «data».now }
-    {
-        if data.len() == 1 {
-            RXParamSetupAnsAnswer::Read(RXParamSetupAnsPayload(data[0]))
-        } else {
-            RXParamSetupAnsAnswer::Refused(Refusal::WrongLength)
-        }
-    }
-
-    pub fn cid() -> u8
-        ensures { result ≡ (named "RXParamSetupAns").cid }
-    {
+    fn cid() -> u8 {
         0x05
     }
 
-    pub fn uplink() -> bool
-        ensures { result ≡ flag_of (named "RXParamSetupAns") }
-    {
+    fn uplink() -> bool {
         true
     }
 
-    pub fn len() -> usize
-        ensures { result ≡ (named "RXParamSetupAns").size }
-    {
+    fn len() -> usize {
         1
+    }
+}
+
+impl RXParamSetupAnsPayload {
+    pub fn new(data: &[u8]) -> Result<Self, Refusal>
+        ensures { told rx_param_setup_ans_bytes result ≡ exactly (named "RXParamSetupAns").size «data».now }
+    {
+        let [a]: [u8; 1] = sized(data)?;
+        Ok(Self(a))
     }
 
     pub fn bytes(self) -> [u8; 1]

@@ -1,56 +1,40 @@
-ghost use Rattle.std.specs.Prelude.{max, ◌≡◌};
-ghost use Rattle.table.specs.Table.{named, flag_of};
+ghost use Rattle.std.specs.Prelude.{◌≡◌};
+ghost use Rattle.table.specs.Table.{named};
+ghost use Rattle.table.specs.Told.{told};
 ghost use Rattle.fields.specs.Lists.{exactly};
 ghost use Rattle.payloads.specs.Bytes.{rx_timing_setup_ans_bytes, rx_timing_setup_req_bytes};
 ghost use Rattle.payloads.specs.Meanings.{delay_of};
-ghost use Rattle.payloads.specs.Told.{told_rx_timing_setup_req};
 
+use crate::command_type::CommandType;
+use crate::payload_bytes::sized;
 use table::Refusal;
 
-// The seconds that a delay's code stands for.
-fn in_seconds(code: u8) -> u8
-    ensures { result ≡ max 1 code }
-{
-    if code == 0 { 1 } else { code }
-}
-
 // Sets when the first receive window opens.
-#[derive(Clone, Copy)]
+#[derive(Clone, Copy, PartialEq, Eq)]
 pub struct RXTimingSetupReqPayload(pub u8);
 
-#[derive(Clone, Copy)]
-pub enum RXTimingSetupReqAnswer {
-    Read(RXTimingSetupReqPayload),
-    Refused(Refusal),
-}
+impl CommandType for RXTimingSetupReqPayload {
+    ghost command = { named "RXTimingSetupReq" };
 
-impl RXTimingSetupReqPayload {
-    pub fn new(data: &[u8]) -> RXTimingSetupReqAnswer
-        ensures { told_rx_timing_setup_req result ≡ exactly (named "RXTimingSetupReq").size «data».now }
-    {
-        if data.len() == 1 {
-            RXTimingSetupReqAnswer::Read(RXTimingSetupReqPayload(data[0]))
-        } else {
-            RXTimingSetupReqAnswer::Refused(Refusal::WrongLength)
-        }
-    }
-
-    pub fn cid() -> u8
-        ensures { result ≡ (named "RXTimingSetupReq").cid }
-    {
+    fn cid() -> u8 {
         0x08
     }
 
-    pub fn uplink() -> bool
-        ensures { result ≡ flag_of (named "RXTimingSetupReq") }
-    {
+    fn uplink() -> bool {
         false
     }
 
-    pub fn len() -> usize
-        ensures { result ≡ (named "RXTimingSetupReq").size }
-    {
+    fn len() -> usize {
         1
+    }
+}
+
+impl RXTimingSetupReqPayload {
+    pub fn new(data: &[u8]) -> Result<Self, Refusal>
+        ensures { told rx_timing_setup_req_bytes result ≡ exactly (named "RXTimingSetupReq").size «data».now }
+    {
+        let [a]: [u8; 1] = sized(data)?;
+        Ok(Self(a))
     }
 
     pub fn bytes(self) -> [u8; 1]
@@ -63,38 +47,37 @@ impl RXTimingSetupReqPayload {
     pub fn delay(self) -> u8
         ensures { result ≡ delay_of (rx_timing_setup_req_bytes self) }
     {
-        in_seconds(self.0 % 16)
+        let code = self.0 % 16;
+        code.max(1)
     }
 }
 
 // Tells that an RXTimingSetupReq was received.
-#[derive(Clone, Copy)]
+#[derive(Clone, Copy, PartialEq, Eq)]
 pub struct RXTimingSetupAnsPayload();
 
-impl RXTimingSetupAnsPayload {
-    // Any slice, of which nothing is kept.
-    pub fn new(_data: &[u8]) -> RXTimingSetupAnsPayload
-        ensures { result ≡ record {} }
-    {
-        RXTimingSetupAnsPayload()
-    }
+impl CommandType for RXTimingSetupAnsPayload {
+    ghost command = { named "RXTimingSetupAns" };
 
-    pub fn cid() -> u8
-        ensures { result ≡ (named "RXTimingSetupAns").cid }
-    {
+    fn cid() -> u8 {
         0x08
     }
 
-    pub fn uplink() -> bool
-        ensures { result ≡ flag_of (named "RXTimingSetupAns") }
-    {
+    fn uplink() -> bool {
         true
     }
 
-    pub fn len() -> usize
-        ensures { result ≡ (named "RXTimingSetupAns").size }
-    {
+    fn len() -> usize {
         0
+    }
+}
+
+impl RXTimingSetupAnsPayload {
+    // Any slice, of which nothing is kept.
+    pub fn new(_data: &[u8]) -> Self
+        ensures { result ≡ record {} }
+    {
+        Self()
     }
 
     pub fn bytes(self) -> [u8; 0]

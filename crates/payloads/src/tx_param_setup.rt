@@ -1,50 +1,41 @@
 ghost use Rattle.std.specs.Prelude.{◌≡◌};
-ghost use Rattle.table.specs.Table.{named, flag_of};
+ghost use Rattle.table.specs.Table.{named};
+ghost use Rattle.table.specs.Told.{told};
 ghost use Rattle.fields.specs.Lists.{exactly};
 ghost use Rattle.fields.specs.Places.{yes_at, tx_param_setup_req_downlink_dwell_time, tx_param_setup_req_uplink_dwell_time};
 ghost use Rattle.payloads.specs.Bytes.{tx_param_setup_ans_bytes, tx_param_setup_req_bytes};
 ghost use Rattle.payloads.specs.Meanings.{max_eirp_of};
-ghost use Rattle.payloads.specs.Told.{told_tx_param_setup_req};
 
+use crate::command_type::CommandType;
+use crate::payload_bytes::sized;
 use table::Refusal;
 
 // Limits the dwell times and the power of the device.
-#[derive(Clone, Copy)]
+#[derive(Clone, Copy, PartialEq, Eq)]
 pub struct TXParamSetupReqPayload(pub u8);
 
-#[derive(Clone, Copy)]
-pub enum TXParamSetupReqAnswer {
-    Read(TXParamSetupReqPayload),
-    Refused(Refusal),
-}
+impl CommandType for TXParamSetupReqPayload {
+    ghost command = { named "TXParamSetupReq" };
 
-impl TXParamSetupReqPayload {
-    pub fn new(data: &[u8]) -> TXParamSetupReqAnswer
-        ensures { told_tx_param_setup_req result ≡ exactly (named "TXParamSetupReq").size «data».now }
-    {
-        if data.len() == 1 {
-            TXParamSetupReqAnswer::Read(TXParamSetupReqPayload(data[0]))
-        } else {
-            TXParamSetupReqAnswer::Refused(Refusal::WrongLength)
-        }
-    }
-
-    pub fn cid() -> u8
-        ensures { result ≡ (named "TXParamSetupReq").cid }
-    {
+    fn cid() -> u8 {
         0x09
     }
 
-    pub fn uplink() -> bool
-        ensures { result ≡ flag_of (named "TXParamSetupReq") }
-    {
+    fn uplink() -> bool {
         false
     }
 
-    pub fn len() -> usize
-        ensures { result ≡ (named "TXParamSetupReq").size }
-    {
+    fn len() -> usize {
         1
+    }
+}
+
+impl TXParamSetupReqPayload {
+    pub fn new(data: &[u8]) -> Result<Self, Refusal>
+        ensures { told tx_param_setup_req_bytes result ≡ exactly (named "TXParamSetupReq").size «data».now }
+    {
+        let [a]: [u8; 1] = sized(data)?;
+        Ok(Self(a))
     }
 
     pub fn bytes(self) -> [u8; 1]
@@ -71,55 +62,39 @@ impl TXParamSetupReqPayload {
     pub fn max_eirp(self) -> u8
         ensures { result ≡ max_eirp_of (tx_param_setup_req_bytes self) }
     {
-        match self.0 % 16 {
-            0 => 8,
-            1 => 10,
-            2 => 12,
-            3 => 13,
-            4 => 14,
-            5 => 16,
-            6 => 18,
-            7 => 20,
-            8 => 21,
-            9 => 24,
-            10 => 26,
-            11 => 27,
-            12 => 29,
-            13 => 30,
-            14 => 33,
-            _ => 36,
-        }
+        const POWERS: [u8; 16] = [
+            8, 10, 12, 13, 14, 16, 18, 20, 21, 24, 26, 27, 29, 30, 33, 36,
+        ];
+        POWERS[(self.0 % 16) as usize]
     }
 }
 
 // Tells that a TXParamSetupReq was received.
-#[derive(Clone, Copy)]
+#[derive(Clone, Copy, PartialEq, Eq)]
 pub struct TXParamSetupAnsPayload();
 
-impl TXParamSetupAnsPayload {
-    // Any slice, of which nothing is kept.
-    pub fn new(_data: &[u8]) -> TXParamSetupAnsPayload
-        ensures { result ≡ record {} }
-    {
-        TXParamSetupAnsPayload()
-    }
+impl CommandType for TXParamSetupAnsPayload {
+    ghost command = { named "TXParamSetupAns" };
 
-    pub fn cid() -> u8
-        ensures { result ≡ (named "TXParamSetupAns").cid }
-    {
+    fn cid() -> u8 {
         0x09
     }
 
-    pub fn uplink() -> bool
-        ensures { result ≡ flag_of (named "TXParamSetupAns") }
-    {
+    fn uplink() -> bool {
         true
     }
 
-    pub fn len() -> usize
-        ensures { result ≡ (named "TXParamSetupAns").size }
-    {
+    fn len() -> usize {
         0
+    }
+}
+
+impl TXParamSetupAnsPayload {
+    // Any slice, of which nothing is kept.
+    pub fn new(_data: &[u8]) -> Self
+        ensures { result ≡ record {} }
+    {
+        Self()
     }
 
     pub fn bytes(self) -> [u8; 0]

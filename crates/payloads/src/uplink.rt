@@ -2,6 +2,7 @@ ghost use Rattle.std.specs.Prelude.{◌≡◌};
 ghost use Rattle.table.specs.Table.{flag_of};
 ghost use Rattle.payloads.specs.Commands.{uplink_entry, uplink_bytes, in_five};
 
+use crate::command_type::CommandType;
 use crate::dev_status::DevStatusAnsPayload;
 use crate::device_time::DeviceTimeReqPayload;
 use crate::dl_channel::DlChannelAnsPayload;
@@ -15,7 +16,7 @@ use crate::rx_timing_setup::RXTimingSetupAnsPayload;
 use crate::tx_param_setup::TXParamSetupAnsPayload;
 
 // A command that a device sends.
-#[derive(Clone, Copy)]
+#[derive(Clone, Copy, PartialEq, Eq)]
 pub enum UplinkMacCommand {
     LinkCheckReq(LinkCheckReqPayload),
     LinkADRAns(LinkADRAnsPayload),
@@ -29,21 +30,23 @@ pub enum UplinkMacCommand {
     DeviceTimeReq(DeviceTimeReqPayload),
 }
 
+// DownlinkMacCommand has the same four methods. A trait of both would be possible. It was left: its impls would repeat every arm below, or call these
+// methods, and both types stand in public signatures.
 impl UplinkMacCommand {
     pub fn len(self) -> usize
         ensures { result ≡ (uplink_entry self).size }
     {
         match self {
-            UplinkMacCommand::LinkCheckReq(_) => 0,
-            UplinkMacCommand::LinkADRAns(_) => 1,
-            UplinkMacCommand::DutyCycleAns(_) => 0,
-            UplinkMacCommand::RXParamSetupAns(_) => 1,
-            UplinkMacCommand::DevStatusAns(_) => 2,
-            UplinkMacCommand::NewChannelAns(_) => 1,
-            UplinkMacCommand::RXTimingSetupAns(_) => 0,
-            UplinkMacCommand::TXParamSetupAns(_) => 0,
-            UplinkMacCommand::DlChannelAns(_) => 1,
-            UplinkMacCommand::DeviceTimeReq(_) => 0,
+            UplinkMacCommand::LinkCheckReq(_) => LinkCheckReqPayload::len(),
+            UplinkMacCommand::LinkADRAns(_) => LinkADRAnsPayload::len(),
+            UplinkMacCommand::DutyCycleAns(_) => DutyCycleAnsPayload::len(),
+            UplinkMacCommand::RXParamSetupAns(_) => RXParamSetupAnsPayload::len(),
+            UplinkMacCommand::DevStatusAns(_) => DevStatusAnsPayload::len(),
+            UplinkMacCommand::NewChannelAns(_) => NewChannelAnsPayload::len(),
+            UplinkMacCommand::RXTimingSetupAns(_) => RXTimingSetupAnsPayload::len(),
+            UplinkMacCommand::TXParamSetupAns(_) => TXParamSetupAnsPayload::len(),
+            UplinkMacCommand::DlChannelAns(_) => DlChannelAnsPayload::len(),
+            UplinkMacCommand::DeviceTimeReq(_) => DeviceTimeReqPayload::len(),
         }
     }
 
@@ -57,16 +60,16 @@ impl UplinkMacCommand {
         ensures { result ≡ (uplink_entry self).cid }
     {
         match self {
-            UplinkMacCommand::LinkCheckReq(_) => 0x02,
-            UplinkMacCommand::LinkADRAns(_) => 0x03,
-            UplinkMacCommand::DutyCycleAns(_) => 0x04,
-            UplinkMacCommand::RXParamSetupAns(_) => 0x05,
-            UplinkMacCommand::DevStatusAns(_) => 0x06,
-            UplinkMacCommand::NewChannelAns(_) => 0x07,
-            UplinkMacCommand::RXTimingSetupAns(_) => 0x08,
-            UplinkMacCommand::TXParamSetupAns(_) => 0x09,
-            UplinkMacCommand::DlChannelAns(_) => 0x0A,
-            UplinkMacCommand::DeviceTimeReq(_) => 0x0D,
+            UplinkMacCommand::LinkCheckReq(_) => LinkCheckReqPayload::cid(),
+            UplinkMacCommand::LinkADRAns(_) => LinkADRAnsPayload::cid(),
+            UplinkMacCommand::DutyCycleAns(_) => DutyCycleAnsPayload::cid(),
+            UplinkMacCommand::RXParamSetupAns(_) => RXParamSetupAnsPayload::cid(),
+            UplinkMacCommand::DevStatusAns(_) => DevStatusAnsPayload::cid(),
+            UplinkMacCommand::NewChannelAns(_) => NewChannelAnsPayload::cid(),
+            UplinkMacCommand::RXTimingSetupAns(_) => RXTimingSetupAnsPayload::cid(),
+            UplinkMacCommand::TXParamSetupAns(_) => TXParamSetupAnsPayload::cid(),
+            UplinkMacCommand::DlChannelAns(_) => DlChannelAnsPayload::cid(),
+            UplinkMacCommand::DeviceTimeReq(_) => DeviceTimeReqPayload::cid(),
         }
     }
 
@@ -74,46 +77,16 @@ impl UplinkMacCommand {
         ensures { (result.len, result.bytes) ≡ in_five (uplink_bytes self) }
     {
         match self {
-            UplinkMacCommand::LinkCheckReq(_) => PayloadBytes {
-                len: 0,
-                bytes: [0; 5],
-            },
-            UplinkMacCommand::LinkADRAns(p) => PayloadBytes {
-                len: 1,
-                bytes: [p.0, 0, 0, 0, 0],
-            },
-            UplinkMacCommand::DutyCycleAns(_) => PayloadBytes {
-                len: 0,
-                bytes: [0; 5],
-            },
-            UplinkMacCommand::RXParamSetupAns(p) => PayloadBytes {
-                len: 1,
-                bytes: [p.0, 0, 0, 0, 0],
-            },
-            UplinkMacCommand::DevStatusAns(p) => PayloadBytes {
-                len: 2,
-                bytes: [p.0, p.1, 0, 0, 0],
-            },
-            UplinkMacCommand::NewChannelAns(p) => PayloadBytes {
-                len: 1,
-                bytes: [p.0, 0, 0, 0, 0],
-            },
-            UplinkMacCommand::RXTimingSetupAns(_) => PayloadBytes {
-                len: 0,
-                bytes: [0; 5],
-            },
-            UplinkMacCommand::TXParamSetupAns(_) => PayloadBytes {
-                len: 0,
-                bytes: [0; 5],
-            },
-            UplinkMacCommand::DlChannelAns(p) => PayloadBytes {
-                len: 1,
-                bytes: [p.0, 0, 0, 0, 0],
-            },
-            UplinkMacCommand::DeviceTimeReq(_) => PayloadBytes {
-                len: 0,
-                bytes: [0; 5],
-            },
+            UplinkMacCommand::LinkCheckReq(p) => PayloadBytes::of(p.bytes()),
+            UplinkMacCommand::LinkADRAns(p) => PayloadBytes::of(p.bytes()),
+            UplinkMacCommand::DutyCycleAns(p) => PayloadBytes::of(p.bytes()),
+            UplinkMacCommand::RXParamSetupAns(p) => PayloadBytes::of(p.bytes()),
+            UplinkMacCommand::DevStatusAns(p) => PayloadBytes::of(p.bytes()),
+            UplinkMacCommand::NewChannelAns(p) => PayloadBytes::of(p.bytes()),
+            UplinkMacCommand::RXTimingSetupAns(p) => PayloadBytes::of(p.bytes()),
+            UplinkMacCommand::TXParamSetupAns(p) => PayloadBytes::of(p.bytes()),
+            UplinkMacCommand::DlChannelAns(p) => PayloadBytes::of(p.bytes()),
+            UplinkMacCommand::DeviceTimeReq(p) => PayloadBytes::of(p.bytes()),
         }
     }
 }

@@ -1,47 +1,41 @@
-// The port's answer to a case, as bytes. Those of few bytes are told by value, one byte behind the other.
-use crate::reading::signed;
+// The port's answer to a case, as bytes. Those of few bytes are told by value, one byte after the other.
 use build::Record;
 use fields::Frequency;
-use table::Verdict;
+use table::Refusal;
 
 // No answer that is told by value has more bytes: one more is left out.
 const MOST: usize = 80;
 
+// The first len of the bytes. The program has no heap, so there is room for the most.
 #[derive(Clone, Copy)]
 pub(crate) struct Answer {
-    pub(crate) len: usize,
-    pub(crate) bytes: [u8; 80],
+    len: usize,
+    bytes: [u8; MOST],
 }
 
 impl Answer {
     pub(crate) fn new() -> Answer {
         Answer {
             len: 0,
-            bytes: [0; 80],
+            bytes: [0; MOST],
         }
     }
 
-    // What a command type answers of itself.
-    pub(crate) fn heading(self, cid: u8, uplink: bool, len: usize) -> Answer {
-        self.byte(cid).flag(uplink).length(len)
-    }
-
     pub(crate) fn byte(mut self, b: u8) -> Answer {
-        let at = self.len;
-        if at < MOST {
-            self.bytes[at] = b;
-            self.len = at + 1;
+        if self.len < MOST {
+            self.bytes[self.len] = b;
+            self.len += 1;
         }
         self
     }
 
     pub(crate) fn flag(self, flag: bool) -> Answer {
-        self.byte(if flag { 1 } else { 0 })
+        self.byte(u8::from(flag))
     }
 
     // A length in one byte, FF where it has no room there.
     pub(crate) fn length(self, n: usize) -> Answer {
-        self.byte(if n < 256 { n as u8 } else { 255 })
+        self.byte(u8::try_from(n).unwrap_or(u8::MAX))
     }
 
     // A number in two bytes.
@@ -51,23 +45,19 @@ impl Answer {
 
     // A number in four bytes.
     pub(crate) fn four(self, n: u32) -> Answer {
-        self.two((n / 65536) as usize).two((n % 65536) as usize)
+        self.all(&n.to_be_bytes())
     }
 
     // A number in one byte, in two's complement.
     pub(crate) fn signed(self, n: i8) -> Answer {
-        self.byte(byte_of(n))
+        self.byte(n.cast_unsigned())
     }
 
     // The first n of the bytes; all of them where there are fewer.
     pub(crate) fn front(self, bytes: &[u8], n: usize) -> Answer {
         let mut told = self;
-        let mut i = 0;
-        while i < bytes.len() {
-            if i < n {
-                told = told.byte(bytes[i]);
-            }
-            i += 1;
+        for b in bytes.iter().take(n) {
+            told = told.byte(*b);
         }
         told
     }
@@ -78,27 +68,38 @@ impl Answer {
 
     pub(crate) fn flags(self, flags: &[bool]) -> Answer {
         let mut told = self;
-        let mut i = 0;
-        while i < flags.len() {
-            told = told.flag(flags[i]);
-            i += 1;
+        for flag in flags {
+            told = told.flag(*flag);
         }
         told
     }
 
-    pub(crate) fn verdict(self, verdict: Verdict) -> Answer {
+    pub(crate) fn verdict(self, verdict: Result<(), Refusal>) -> Answer {
         self.byte(number(verdict))
     }
 
-    // The verdict of an accepted constructor, and the bytes that it took.
-    pub(crate) fn accepted(self, bytes: &[u8]) -> Answer {
-        self.byte(0).all(bytes)
+    // What a command type answers of itself.
+    pub(crate) fn heading(self, cid: u8, uplink: bool, len: usize) -> Answer {
+        self.byte(cid).flag(uplink).length(len)
+    }
+
+    // What a call that may be refused answers: 0 and what is told of its value, or the refusal's number.
+    pub(crate) fn answered<T: Drop, F: FnOnce(Answer, T) -> Answer>(
+        self,
+        answer: Result<T, Refusal>,
+        value: F,
+    ) -> Answer
+        requires { F.IsAlwaysCallable value }
+    {
+        match answer {
+            Ok(x) => value(self.byte(0), x),
+            Err(reason) => self.byte(reason.number()),
+        }
     }
 
     // A frequency's bytes, and its value in Hz.
     pub(crate) fn frequency(self, f: Frequency) -> Answer {
-        let bytes = f.as_ref();
-        self.all(&bytes).four(f.value())
+        self.all(&f.as_ref()).four(f.value())
     }
 
     pub(crate) fn image(self, cid: u8, len: usize, image: &[u8]) -> Answer {
@@ -107,19 +108,16 @@ impl Answer {
 
     // A record that came from no frame.
     pub(crate) fn record(self, record: Record) -> Answer {
-        let payload = record.payload;
         self.byte(record.cid)
             .length(record.len)
-            .front(&payload, record.len)
+            .front(&record.payload, record.len)
             .only_where(record.frame == 0)
             .only_where(record.offset == 0)
     }
 
     // The first n bytes alone.
     pub(crate) fn cut(mut self, n: usize) -> Answer {
-        if n < self.len {
-            self.len = n;
-        }
+        self.len = self.len.min(n);
         self
     }
 
@@ -128,48 +126,33 @@ impl Answer {
         if alike { self } else { self.byte(0xEE) }
     }
 
-    // Puts the answer at a place of out; the place behind it.
+    // Puts the answer at a place of out; the place after it.
     pub(crate) fn put(self, out: &mut [u8], at: usize) -> usize {
-        let bytes = self.bytes;
-        put_front(&bytes, self.len, out, at)
+        match self.bytes.get(..self.len) {
+            Some(bytes) => put(bytes, out, at),
+            None => at,
+        }
     }
 }
 
 // 0 for accepted, else the refusal's number.
-pub(crate) fn number(verdict: Verdict) -> u8 {
+pub(crate) fn number(verdict: Result<(), Refusal>) -> u8 {
     match verdict {
-        Verdict::Accepted => 0,
-        Verdict::Refused(reason) => reason.number(),
+        Ok(()) => 0,
+        Err(reason) => reason.number(),
     }
 }
 
-// The byte that reads as n in two's complement.
-fn byte_of(n: i8) -> u8 {
-    let mut b: u8 = 0;
-    while b < 255 {
-        if signed(b) == n {
-            return b;
+// Puts the bytes at a place of out; the place after them. Where there is no room for them, the place itself.
+pub(crate) fn put(bytes: &[u8], out: &mut [u8], at: usize) -> usize {
+    match out
+        .get_mut(at..)
+        .and_then(|rest| rest.get_mut(..bytes.len()))
+    {
+        Some(room) => {
+            room.copy_from_slice(bytes);
+            at + bytes.len()
         }
-        b += 1;
+        None => at,
     }
-    b
-}
-
-// Puts the first n of the bytes at a place of out; the place behind them. Where there are not so many, or no room for them, the place itself.
-pub(crate) fn put_front(bytes: &[u8], n: usize, out: &mut [u8], at: usize) -> usize {
-    if bytes.len() < n {
-        return at;
-    }
-    if out.len() < at {
-        return at;
-    }
-    if out.len() - at < n {
-        return at;
-    }
-    let mut i = 0;
-    while i < n {
-        out[at + i] = bytes[i];
-        i += 1;
-    }
-    at + n
 }

@@ -1,29 +1,13 @@
 // What the port answers to an entry's input (docs/ORACLE.md, "Entries").
 use crate::answer::Answer;
-use crate::{creators_down, creators_up, lists, masks, payloads_down, payloads_up, small, streams};
+use crate::{creator_types, lists, masks, payload_types, small, streams};
 
-// Commands are numbered row by row of the table, the one that is sent down first.
-fn payload(command: u8, input: &[u8]) -> Answer {
-    if command % 2 == 0 {
-        payloads_down::answer(command / 2, input)
-    } else {
-        payloads_up::answer(command / 2, input)
-    }
-}
-
-fn creator(command: u8, input: &[u8]) -> Answer {
-    if command % 2 == 0 {
-        creators_down::answer(command / 2, input)
-    } else {
-        creators_up::answer(command / 2, input)
-    }
-}
-
+// By numbers, an entry's and then the kind's within it: they are read from a file, whose form has no other name for them.
 fn told(entry: u8, input: &[u8]) -> Answer {
     match entry / 16 {
         0 => small::answer(entry, input),
-        1 | 2 => payload(entry - 16, input),
-        4 | 5 => creator(entry - 64, input),
+        1 | 2 => payload_types::answer(entry - 16, input),
+        4 | 5 => creator_types::answer(entry - 64, input),
         8 => masks::width2(entry % 16, input),
         9 => masks::width9(entry % 16, input),
         _ => Answer::new(),

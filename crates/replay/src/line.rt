@@ -1,19 +1,19 @@
-// A line of cases, read a byte at a time: ENTRY CLASS INPUT ANSWER [RUST], parted by one space, bytes in capital hex, `-` for none.
+// A line of cases, read a byte at a time: ENTRY CLASS INPUT ANSWER [RUST], separated by one space, bytes in capital hex, `-` for none.
+
+use crate::answer::put;
 
 // What is read of a line. Its bytes go to a lent buffer, one behind the other.
 #[derive(Clone, Copy)]
 pub(crate) struct Line {
-    // The field that is being read.
-    field: u8,
-    // The first digit of a byte, or `BETWEEN`.
-    digit: u8,
+    field: Field,
+    // The first digit of a byte whose second has not come.
+    digit: Option<u8>,
     // How many bytes there are.
     end: usize,
     // How many there were at the end of the input, and of the answer.
     input: usize,
     answer: usize,
-    comment: bool,
-    // Whether something stands where a line has no place for it.
+    // Whether something stands where a line has no place for it. No field of its own: a line that begins so may still be a comment.
     bad: bool,
 }
 
@@ -26,24 +26,23 @@ pub(crate) enum Asked {
     Unread,
 }
 
-const BETWEEN: u8 = 16;
+// The field that is being read, or that the line is a comment.
+#[derive(Clone, Copy, PartialEq, Eq)]
+enum Field {
+    Comment,
+    Entry,
+    Class,
+    Input,
+    Answer,
+    Rust,
+}
 
-const ENTRY: u8 = 0;
-
-const CLASS: u8 = 1;
-
-const INPUT: u8 = 2;
-
-const ANSWER: u8 = 3;
-
-const RUST: u8 = 4;
-
-// The digit's value, or `BETWEEN` for no digit.
-fn digit(c: u8) -> u8 {
+// The digit's value.
+fn digit(c: u8) -> Option<u8> {
     match c {
-        b'0'..=b'9' => c - b'0',
-        b'A'..=b'F' => c - b'A' + 10,
-        _ => BETWEEN,
+        b'0'..=b'9' => Some(c - b'0'),
+        b'A'..=b'F' => Some(c - b'A' + 10),
+        _ => None,
     }
 }
 
@@ -51,25 +50,14 @@ fn joined(high: u8, low: u8) -> u8 {
     high % 16 * 16 + low % 16
 }
 
-// Puts the byte at a place; the place behind it, or the place itself where there is no room.
-fn put(bytes: &mut [u8], at: usize, b: u8) -> usize {
-    if at < bytes.len() {
-        bytes[at] = b;
-        at + 1
-    } else {
-        at
-    }
-}
-
 impl Line {
     pub(crate) fn new() -> Line {
         Line {
-            field: ENTRY,
-            digit: BETWEEN,
+            field: Field::Entry,
+            digit: None,
             end: 0,
             input: 0,
             answer: 0,
-            comment: false,
             bad: false,
         }
     }
@@ -80,76 +68,72 @@ impl Line {
     }
 
     // The next field is begun, if the last one has its bytes.
-    fn at_field(mut self, field: u8, whole: bool) -> Line {
+    fn at_field(mut self, field: Field, whole: bool) -> Line {
         self.field = field;
         if whole { self } else { self.spoilt() }
     }
 
     fn behind_input(mut self) -> Line {
         self.input = self.end;
-        self.at_field(ANSWER, true)
+        self.at_field(Field::Answer, true)
     }
 
     fn behind_answer(mut self) -> Line {
         self.answer = self.end;
-        self.at_field(RUST, true)
+        self.at_field(Field::Rust, true)
     }
 
     fn next_field(self) -> Line {
-        let field = self.field;
-        match field {
-            ENTRY => self.at_field(CLASS, self.end == 1),
-            CLASS => self.at_field(INPUT, self.end == 2),
-            INPUT => self.behind_input(),
-            ANSWER => self.behind_answer(),
-            _ => self.spoilt(),
+        match self.field {
+            Field::Entry => self.at_field(Field::Class, self.end == 1),
+            Field::Class => self.at_field(Field::Input, self.end == 2),
+            Field::Input => self.behind_input(),
+            Field::Answer => self.behind_answer(),
+            Field::Rust | Field::Comment => self.spoilt(),
         }
     }
 
     fn at_space(self) -> Line {
-        if self.digit == BETWEEN {
+        if self.digit.is_none() {
             self.next_field()
         } else {
             self.spoilt()
         }
     }
 
-    fn with_digit(mut self, digit: u8) -> Line {
-        self.digit = digit;
-        self
-    }
-
+    // With a byte more, which was put at its place if there is room there.
     fn with_end(mut self, end: usize) -> Line {
         if end == self.end {
             return self.spoilt();
         }
         self.end = end;
-        self.with_digit(BETWEEN)
+        self.digit = None;
+        self
     }
 
-    fn more_digits(self, d: u8, bytes: &mut [u8]) -> Line {
-        let high = self.digit;
-        if d == BETWEEN {
-            return self.spoilt();
+    fn more_digits(mut self, c: u8, bytes: &mut [u8]) -> Line {
+        match (self.digit, digit(c)) {
+            (_, None) => self.spoilt(),
+            (None, low) => {
+                self.digit = low;
+                self
+            }
+            (Some(high), Some(low)) => self.with_end(put(&[joined(high, low)], bytes, self.end)),
         }
-        if high == BETWEEN {
-            return self.with_digit(d);
-        }
-        self.with_end(put(bytes, self.end, joined(high, d)))
     }
 
     fn is_new(self) -> bool {
-        self.field == ENTRY && self.end == 0 && self.digit == BETWEEN
+        self.field == Field::Entry && self.end == 0 && self.digit.is_none()
     }
 
     fn as_comment(mut self) -> Line {
-        self.comment = true;
+        self.field = Field::Comment;
         self
     }
 
     // Whether the rest of the line is passed over: what the Rust did instead is not compared.
     fn passes(self, c: u8) -> bool {
-        self.comment || self.field == RUST && c != b' ' || c == b'-'
+        self.field == Field::Comment || self.field == Field::Rust && c != b' ' || c == b'-'
     }
 
     // One byte more of the line.
@@ -163,25 +147,20 @@ impl Line {
         if c == b'#' && self.is_new() {
             return self.as_comment();
         }
-        self.more_digits(digit(c), bytes)
+        self.more_digits(c, bytes)
     }
 
     // At the line's end.
     pub(crate) fn asked(self) -> Asked {
-        let field = self.field;
         let input = self.input;
-        if self.comment {
-            return Asked::Comment;
-        }
-        if self.bad || self.digit != BETWEEN {
-            return Asked::Unread;
-        }
-        match field {
-            ANSWER => Asked::Case {
+        match self.field {
+            Field::Comment => Asked::Comment,
+            _ if self.bad || self.digit.is_some() => Asked::Unread,
+            Field::Answer => Asked::Case {
                 input,
                 answer: self.end,
             },
-            RUST => Asked::Case {
+            Field::Rust => Asked::Case {
                 input,
                 answer: self.answer,
             },
@@ -191,6 +170,6 @@ impl Line {
 
     // Whether the line has anything yet.
     pub(crate) fn is_begun(self) -> bool {
-        self.comment || self.bad || !self.is_new()
+        self.bad || !self.is_new()
     }
 }

@@ -2,64 +2,46 @@
 ghost use Rattle.std.specs.Prelude.{◌<◌};
 
 use fields::{ChannelMask2, Frequency};
+use std::array;
 use table::{Direction, Rules};
 
 pub(crate) fn byte(s: &[u8], i: usize) -> u8 {
-    if i < s.len() { s[i] } else { 0 }
+    s.get(i).copied().unwrap_or(0)
 }
 
 pub(crate) fn flag(s: &[u8], i: usize) -> bool {
     byte(s, i) != 0
 }
 
+// The first bytes, as many as the array has.
+pub(crate) fn first<const N: usize>(s: &[u8]) -> [u8; N] {
+    array::from_fn(|i| byte(s, i))
+}
+
 // What is left from a place on; nothing past the end.
 pub(crate) fn from(s: &[u8], i: usize) -> &[u8] {
-    if i <= s.len() { &s[i..] } else { &s[..0] }
-}
-
-fn joined_two(a: u8, b: u8) -> u64
-    ensures { result < 65536 }
-{
-    (a as u64) * 256 + (b as u64)
-}
-
-fn joined_four(a: u8, b: u8, c: u8, d: u8) -> u64
-    ensures { result < 4294967296 }
-{
-    joined_two(a, b) * 65536 + joined_two(c, d)
+    s.get(i..).unwrap_or(&s[..0])
 }
 
 // A number in two bytes.
 pub(crate) fn two(s: &[u8]) -> usize
     ensures { result < 65536 }
 {
-    joined_two(byte(s, 0), byte(s, 1)) as usize
-}
-
-fn four(s: &[u8]) -> u64
-    ensures { result < 4294967296 }
-{
-    joined_four(byte(s, 0), byte(s, 1), byte(s, 2), byte(s, 3))
-}
-
-// A byte in two's complement.
-pub(crate) fn signed(b: u8) -> i8 {
-    if b < 128 { b as i8 } else { !((255 - b) as i8) }
+    usize::from(u16::from_be_bytes(first(s)))
 }
 
 // An index, in eight bytes.
 pub(crate) fn index(s: &[u8]) -> usize {
-    let low = four(from(s, 4));
-    (four(s) * 4294967296 + low) as usize
+    u64::from_be_bytes(first(s)) as usize
 }
 
 // The direction in an input's first byte.
 pub(crate) fn rules(s: &[u8]) -> Rules {
-    if flag(s, 0) {
-        Rules::new(Direction::Up)
+    Rules::new(if flag(s, 0) {
+        Direction::Up
     } else {
-        Rules::new(Direction::Down)
-    }
+        Direction::Down
+    })
 }
 
 // How many calls an input of the creators has: it is a byte that says how the creator starts, and then calls, at most four. A call is
@@ -74,7 +56,7 @@ pub(crate) fn is_default(input: &[u8]) -> bool {
 
 // The argument of the call at a place.
 pub(crate) fn argument(input: &[u8], at: usize) -> u32 {
-    four(from(from(input, at), 1)) as u32
+    u32::from_be_bytes(first(from(from(input, at), 1)))
 }
 
 // An argument's last byte.

@@ -1,6 +1,6 @@
 // The commands of a walk as records of a frame, packed, and built again: each record must say that frame and its own offset, and what is
 // written must be the stream up to where the walk ended.
-use build::{BuildAnswer, Record, build_mac_commands, record_at};
+use build::{build_mac_commands, record_at};
 use table::Rules;
 use walk::Step;
 
@@ -9,76 +9,44 @@ const FRAME: u32 = 4_000_000_007;
 // A walk of more commands is not built again.
 const MOST: usize = 256;
 
-fn came_from(record: Record, at: usize) -> bool {
-    if record.frame == FRAME {
-        record.offset == at
-    } else {
-        false
-    }
-}
-
-// Packs the record at an offset into slot i. The offset behind it; one that no stream has where the record says another frame or offset.
-fn pack(rules: Rules, stream: &[u8], at: usize, slots: &mut [u8], i: usize) -> usize {
+// Packs the record at an offset into slot i, and answers the offset after it. None where the record says another frame or offset. Rules and
+// stream stay two parameters, as the functions of `walk` and `build` take them.
+fn pack(rules: Rules, stream: &[u8], at: usize, slots: &mut [u8], i: usize) -> Option<usize> {
     let handed = record_at(rules, FRAME, stream, at);
     let record = handed.record;
     record.pack(slots, i);
-    let step = handed.step;
-    if let Step::Command {
-        cid: _,
-        len: _,
-        next,
-    } = step
-    {
-        if came_from(record, at) {
-            next
-        } else {
-            usize::MAX
-        }
-    } else {
-        usize::MAX
+    match handed.step {
+        Step::Command { next, .. } if record.frame == FRAME && record.offset == at => Some(next),
+        _ => None,
     }
 }
 
-fn pack_all(rules: Rules, stream: &[u8], count: usize, slots: &mut [u8]) -> usize {
-    let mut at: usize = 0;
-    let mut i: usize = 0;
-    while i < count {
-        at = pack(rules, stream, at, slots, i);
-        i += 1;
+fn pack_all(rules: Rules, stream: &[u8], count: usize, slots: &mut [u8]) -> Option<usize> {
+    let mut at = 0;
+    for i in 0..count {
+        at = pack(rules, stream, at, slots, i)?;
     }
-    at
-}
-
-// So many bytes of out are the stream's up to an offset.
-fn is_front(out: &[u8], n: usize, stream: &[u8], at: usize) -> bool {
-    if n != at {
-        return false;
-    }
-    if out.len() < n {
-        return false;
-    }
-    if stream.len() < n {
-        return false;
-    }
-    &out[0..n] == &stream[0..n]
+    Some(at)
 }
 
 fn built(rules: Rules, slots: &[u8], stream: &[u8], at: usize) -> bool {
     let mut out = [0u8; 1536];
-    let answer = build_mac_commands(rules, slots, &mut out);
-    if let BuildAnswer::Total(n) = answer {
-        is_front(&out, n, stream, at)
-    } else {
-        false
+    let Ok(n) = build_mac_commands(rules, slots, &mut out) else {
+        return false;
+    };
+    match (out.get(..n), stream.get(..at)) {
+        (Some(written), Some(walked)) => written == walked,
+        _ => false,
     }
 }
 
 pub(crate) fn same(rules: Rules, stream: &[u8], count: usize) -> bool {
+    let mut slots = [0u8; 8 * MOST];
     if MOST < count {
         return true;
     }
-    let mut slots = [0u8; 2048];
-    let at = pack_all(rules, stream, count, &mut slots);
-    let end = 8 * count;
-    built(rules, &slots[0..end], stream, at)
+    match pack_all(rules, stream, count, &mut slots) {
+        Some(at) => built(rules, &slots[..8 * count], stream, at),
+        None => false,
+    }
 }

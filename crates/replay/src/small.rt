@@ -1,9 +1,7 @@
 // Entries 01 to 04: the small fields.
 use crate::answer::Answer;
-use crate::reading::byte;
-use fields::{
-    DLSettings, DataRateRange, DataRateRangeAnswer, Frequency, FrequencyAnswer, Redundancy,
-};
+use crate::reading::{byte, first};
+use fields::{DLSettings, DataRateRange, Frequency, Redundancy};
 
 fn told_settings(told: Answer, s: DLSettings) -> Answer {
     told.byte(s.rx1_dr_offset())
@@ -23,48 +21,35 @@ fn told_range(told: Answer, r: DataRateRange) -> Answer {
         .byte(r.raw_value())
 }
 
-fn dl_settings(b: u8) -> Answer {
-    told_settings(
-        told_settings(Answer::new(), DLSettings::new(b)),
-        DLSettings::from(b),
-    )
-}
-
-fn redundancy(b: u8) -> Answer {
-    told_redundancy(
-        told_redundancy(Answer::new(), Redundancy::new(b)),
-        Redundancy::from(b),
-    )
-}
-
-fn checked_range(told: Answer, b: u8) -> Answer {
-    match DataRateRange::new(b) {
-        DataRateRangeAnswer::Read(range) => told_range(told.byte(0), range),
-        DataRateRangeAnswer::Refused(reason) => told.byte(reason.number()),
-    }
+// What is told of a field that its constructor makes, and then of the one that From makes.
+fn both<T: Drop, F: Fn(Answer, T) -> Answer>(tell: F, made: T, converted: T) -> Answer
+    requires { F.IsAlwaysCallable tell }
+{
+    tell(tell(Answer::new(), made), converted)
 }
 
 fn data_rate_range(b: u8) -> Answer {
-    let told = told_range(Answer::new(), DataRateRange::new_from_raw(b));
-    let told = told_range(told, DataRateRange::from(b));
-    checked_range(told.verdict(DataRateRange::can_build_from(b)), b)
+    let told = both(
+        told_range,
+        DataRateRange::new_from_raw(b),
+        DataRateRange::from(b),
+    );
+    told.verdict(DataRateRange::can_build_from(b))
+        .answered(DataRateRange::new(b), told_range)
 }
 
 fn frequency(input: &[u8]) -> Answer {
-    match Frequency::new(input) {
-        FrequencyAnswer::Read(f) => {
-            let same = Frequency::from([byte(input, 0), byte(input, 1), byte(input, 2)]);
-            Answer::new().byte(0).frequency(f).frequency(same)
-        }
-        FrequencyAnswer::Refused(reason) => Answer::new().byte(reason.number()),
-    }
+    Answer::new().answered(Frequency::new(input), |told, f| {
+        told.frequency(f).frequency(Frequency::from(first(input)))
+    })
 }
 
 pub(crate) fn answer(which: u8, input: &[u8]) -> Answer {
+    let b = byte(input, 0);
     match which {
-        1 => dl_settings(byte(input, 0)),
-        2 => redundancy(byte(input, 0)),
-        3 => data_rate_range(byte(input, 0)),
+        1 => both(told_settings, DLSettings::new(b), DLSettings::from(b)),
+        2 => both(told_redundancy, Redundancy::new(b), Redundancy::from(b)),
+        3 => data_rate_range(b),
         4 => frequency(input),
         _ => Answer::new(),
     }

@@ -6,7 +6,7 @@ use crate::{fronts, rebuilt};
 use build::Record;
 use payloads::PayloadBytes;
 use table::{Direction, Rules};
-use walk::{DownlinkStep, Outcome, Step, UplinkStep, WalkEnd};
+use walk::{CommandStep, Outcome, Step, WalkEnd};
 
 // ---- The walk.
 
@@ -19,103 +19,67 @@ fn told_ending(told: Answer, outcome: Outcome) -> Answer {
 }
 
 fn told_walk(end: WalkEnd) -> Answer {
-    let outcome = end.outcome;
-    told_ending(Answer::new().two(end.count), outcome)
+    told_ending(Answer::new().two(end.count), end.outcome)
 }
 
-// The offset behind the command that the step in numbers finds.
+// The offset after the command that the step in numbers finds.
 fn behind(rules: Rules, stream: &[u8], at: usize) -> usize {
-    let step = walk::step_at(rules, stream, at);
-    if let Step::Command {
-        cid: _,
-        len: _,
-        next,
-    } = step
-    {
-        next
-    } else {
-        at
+    match walk::step_at(rules, stream, at) {
+        Step::Command { next, .. } => next,
+        _ => at,
     }
 }
 
-// The part of the stream holds the first len of the bytes, and no more.
-fn alike(part: &[u8], bytes: &[u8], len: usize) -> bool {
-    if len <= bytes.len() {
-        part == &bytes[0..len]
-    } else {
-        false
+// A typed command's payload, and the part of the stream that holds it; and that its step ends where the step in numbers does.
+fn told_payload(
+    told: Answer,
+    rules: Rules,
+    stream: &[u8],
+    at: usize,
+    payload: PayloadBytes,
+    next: usize,
+) -> Answer {
+    let part = walk::payload_at(rules, stream, at);
+    let alike = payload
+        .bytes
+        .get(..payload.len)
+        .is_some_and(|bytes| bytes == part);
+    told.only_where(next == behind(rules, stream, at))
+        .all(part)
+        .only_where(alike)
+}
+
+// Two arms alike, since the two directions' enums share no trait (payloads/src/downlink.rt): a closure for each would be the same line twice.
+fn command_at(rules: Rules, stream: &[u8], at: usize) -> Answer {
+    let told = Answer::new().two(at);
+    match rules.direction {
+        Direction::Down => match walk::downlink_at(stream, at) {
+            CommandStep::Command(c, next) => {
+                let told = told.heading(c.cid(), c.uplink(), c.len());
+                told_payload(told, rules, stream, at, c.bytes(), next)
+            }
+            _ => Answer::new(),
+        },
+        Direction::Up => match walk::uplink_at(stream, at) {
+            CommandStep::Command(c, next) => {
+                let told = told.heading(c.cid(), c.uplink(), c.len());
+                told_payload(told, rules, stream, at, c.bytes(), next)
+            }
+            _ => Answer::new(),
+        },
     }
 }
 
-// A command's payload, and the part of the stream that holds it.
-fn told_payload(told: Answer, bytes: PayloadBytes, part: &[u8]) -> Answer {
-    let five = bytes.bytes;
-    told.all(part).only_where(alike(part, &five, bytes.len))
-}
-
-fn down_at(stream: &[u8], at: usize) -> Answer {
-    let rules = Rules::new(Direction::Down);
-    let step = walk::downlink_at(stream, at);
-    if let DownlinkStep::Command(command, next) = step {
-        let told = Answer::new()
-            .two(at)
-            .heading(command.cid(), command.uplink(), command.len());
-        let told = told.only_where(next == behind(rules, stream, at));
-        told_payload(told, command.bytes(), walk::payload_at(rules, stream, at))
-    } else {
-        Answer::new()
-    }
-}
-
-fn up_at(stream: &[u8], at: usize) -> Answer {
-    let rules = Rules::new(Direction::Up);
-    let step = walk::uplink_at(stream, at);
-    if let UplinkStep::Command(command, next) = step {
-        let told = Answer::new()
-            .two(at)
-            .heading(command.cid(), command.uplink(), command.len());
-        let told = told.only_where(next == behind(rules, stream, at));
-        told_payload(told, command.bytes(), walk::payload_at(rules, stream, at))
-    } else {
-        Answer::new()
-    }
-}
-
-fn command_at(up: bool, stream: &[u8], at: usize) -> Answer {
-    if up {
-        up_at(stream, at)
-    } else {
-        down_at(stream, at)
-    }
-}
-
-fn commands(up: bool, stream: &[u8], count: usize, out: &mut [u8], told: usize) -> usize {
-    let rules = rules_of(up);
-    let mut end = told;
-    let mut at: usize = 0;
-    let mut i: usize = 0;
-    while i < count {
-        end = command_at(up, stream, at).put(out, end);
+fn whole(rules: Rules, stream: &[u8], out: &mut [u8]) -> usize {
+    let walked = walk::walk(rules, stream);
+    let told = told_walk(walked).only_where(rebuilt::same(rules, stream, walked.count));
+    let mut end = told.put(out, 0);
+    let mut at = 0;
+    for _ in 0..walked.count {
+        end = command_at(rules, stream, at).put(out, end);
         at = behind(rules, stream, at);
-        i += 1;
     }
     end
-}
-
-fn rules_of(up: bool) -> Rules {
-    if up {
-        Rules::new(Direction::Up)
-    } else {
-        Rules::new(Direction::Down)
-    }
-}
-
-fn whole(up: bool, stream: &[u8], out: &mut [u8]) -> usize {
-    let rules = rules_of(up);
-    let end = walk::walk(rules, stream);
-    let told = told_walk(end).only_where(rebuilt::same(rules, stream, end.count));
-    let told = told.put(out, 0);
-    commands(up, stream, end.count, out, told)
 }
 
 // ---- An iterator's calls, so many as the input says.
@@ -129,48 +93,38 @@ fn told_step(step: Step) -> Answer {
     }
 }
 
-fn calls(up: bool, stream: &[u8], count: usize, out: &mut [u8]) -> usize {
-    let mut end: usize = 0;
-    let mut i: usize = 0;
-    while i < count {
-        end = told_step(fronts::nth_step(up, stream, i)).put(out, end);
-        i += 1;
+fn iterator(rules: Rules, input: &[u8], out: &mut [u8]) -> usize {
+    let stream = from(input, 2);
+    let mut end = 0;
+    for n in 0..two(input) {
+        end = told_step(fronts::nth_step(rules, stream, n)).put(out, end);
     }
     end
 }
 
-fn iterator(up: bool, input: &[u8], out: &mut [u8]) -> usize {
-    calls(up, from(input, 2), two(input), out)
-}
-
 // ---- The command at the stream's front, as a record.
 
-fn down_record(stream: &[u8]) -> Answer {
-    let step = walk::downlink_at(stream, 0);
-    if let DownlinkStep::Command(command, _) = step {
-        Answer::new().record(Record::of_downlink(command))
-    } else {
-        Answer::new()
-    }
-}
-
-fn up_record(stream: &[u8]) -> Answer {
-    let step = walk::uplink_at(stream, 0);
-    if let UplinkStep::Command(command, _) = step {
-        Answer::new().record(Record::of_uplink(command))
-    } else {
-        Answer::new()
+fn told_record<C>(found: CommandStep<C>) -> Answer
+where
+    C: Drop,
+    Record: From<C>,
+{
+    match found {
+        CommandStep::Command(command, _) => Answer::new().record(Record::from(command)),
+        _ => Answer::new(),
     }
 }
 
 pub(crate) fn answer(which: u8, input: &[u8], out: &mut [u8]) -> usize {
+    let down = Rules::new(Direction::Down);
+    let up = Rules::new(Direction::Up);
     match which {
-        0 => whole(false, input, out),
-        1 => whole(true, input, out),
-        2 => iterator(false, input, out),
-        3 => iterator(true, input, out),
-        4 => down_record(input).put(out, 0),
-        5 => up_record(input).put(out, 0),
+        0 => whole(down, input, out),
+        1 => whole(up, input, out),
+        2 => iterator(down, input, out),
+        3 => iterator(up, input, out),
+        4 => told_record(walk::downlink_at(input, 0)).put(out, 0),
+        5 => told_record(walk::uplink_at(input, 0)).put(out, 0),
         _ => 0,
     }
 }

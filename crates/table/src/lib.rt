@@ -4,5 +4,5 @@
 pub mod refusal;
 pub mod rules;
 
-pub use refusal::{Refusal, Verdict};
-pub use rules::{Direction, Length, Rules};
+pub use refusal::Refusal;
+pub use rules::{Direction, Rules};

@@ -2,80 +2,53 @@
 ghost use Rattle.std.specs.Prelude.{◌≡◌};
 ghost use Rattle.table.specs.Refusals.{number_of};
 
-#[derive(Clone, Copy)]
+#[derive(Clone, Copy, PartialEq, Eq)]
 pub enum Refusal {
     // A byte that the direction has no command for.
-    UnknownMacCommand,
+    UnknownMacCommand = 1,
     // A command whose payload is cut off.
-    TruncatedPayload,
+    TruncatedPayload = 2,
     // More or fewer bytes than a sized payload or a `Frequency` has; a record that states another length than the table.
-    WrongLength,
+    WrongLength = 3,
     // No room for the total, or for a stream's entries; too few bytes for a mask; no entry that covers a command.
-    BufferTooShort,
+    BufferTooShort = 4,
     // A channel or a bank that the mask has not; an offset or an entry behind the end of the stream; a stream too long for entries.
-    InvalidIndex,
+    InvalidIndex = 5,
     // A range, made with the check, whose highest rate is below its lowest.
-    InvalidDataRateRange,
+    InvalidDataRateRange = 6,
     // A setter's data rate over 15.
-    InvalidDataRate,
+    InvalidDataRate = 7,
     // A setter's power over 15.
-    InvalidTxPower,
+    InvalidTxPower = 8,
     // A margin below -32 or over 31.
-    MarginOutOfRange,
+    MarginOutOfRange = 9,
     // A delay's code over 15.
-    DelayOutOfRange,
+    DelayOutOfRange = 10,
     // A power limit over 15.
-    MaxEirpOutOfRange,
+    MaxEirpOutOfRange = 11,
     // Nanoseconds over 1,000,000,000.
-    NanoSecondsOutOfRange,
+    NanoSecondsOutOfRange = 12,
     // Chooser: commands in the payload, by port 0, and in FOpts too.
-    BothPlaces,
+    BothPlaces = 13,
     // Chooser: more than 15 bytes of FOpts.
-    FOptsTooLong,
+    FOptsTooLong = 14,
     // Chooser: a payload, and no port.
-    PayloadWithoutPort,
+    PayloadWithoutPort = 15,
     // Over 4,096 records.
-    ListTooLong,
+    ListTooLong = 16,
     // Ledger: a ninth open request of one CID.
-    PendingFull,
+    PendingFull = 17,
     // Ledger: a line of a trace that has not the form.
-    BadTraceLine,
+    BadTraceLine = 18,
     // Jump: the walk from the entry stops or ends before the command.
-    NoSuchCommand,
+    NoSuchCommand = 19,
 }
 
 impl Refusal {
-    // The refusal's number in docs/RULES.md.
+    // The refusal's number in docs/RULES.md. A method and no `From`: docs/CLAIMS.md names it.
     pub fn number(self) -> u8
         ensures { result ≡ number_of self }
     {
-        match self {
-            Refusal::UnknownMacCommand => 1,
-            Refusal::TruncatedPayload => 2,
-            Refusal::WrongLength => 3,
-            Refusal::BufferTooShort => 4,
-            Refusal::InvalidIndex => 5,
-            Refusal::InvalidDataRateRange => 6,
-            Refusal::InvalidDataRate => 7,
-            Refusal::InvalidTxPower => 8,
-            Refusal::MarginOutOfRange => 9,
-            Refusal::DelayOutOfRange => 10,
-            Refusal::MaxEirpOutOfRange => 11,
-            Refusal::NanoSecondsOutOfRange => 12,
-            Refusal::BothPlaces => 13,
-            Refusal::FOptsTooLong => 14,
-            Refusal::PayloadWithoutPort => 15,
-            Refusal::ListTooLong => 16,
-            Refusal::PendingFull => 17,
-            Refusal::BadTraceLine => 18,
-            Refusal::NoSuchCommand => 19,
-        }
+        self as u8
     }
-}
-
-// Whether a call was accepted, where nothing else is to be said.
-#[derive(Clone, Copy)]
-pub enum Verdict {
-    Accepted,
-    Refused(Refusal),
 }

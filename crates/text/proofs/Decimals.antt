@@ -160,6 +160,20 @@ decimal_at_most (suc k) n h = by (ltb n 10) refl (λ g. decimal_at_most k (n / 1
     by true e r = omega (arith, ap length (decimal_one n (ltb-true n 10 e)))
     by false e r = let g = ltb-false n 10 e in omega (arith, decimal_long n g, r g)
 
+-- by the power of ten that it reaches, and zero
+pub decimal_power : (k n : ℕ) → 10 ^ k ≤ n → n < 10 * 10 ^ k → length (decimal n) ≡ k + 1
+decimal_power zero n h g = ap length (decimal_one n (omega arith))
+decimal_power (suc k) n h g =
+    let ten : 10 ≤ n = omega (arith, pow-suc 10 k, pow-pos k) in
+    omega (arith, decimal_long n ten, decimal_power k (n / 10) (omega (arith, pow-suc 10 k)) (omega (arith, pow-suc 10 k)))
+  where
+    pow-pos : (k : ℕ) → 1 ≤ 10 ^ k
+    pow-pos zero = omega arith
+    pow-pos (suc k) = omega (arith, pow-suc 10 k, pow-pos k)
+
+pub decimal_zero : length (decimal 0) ≡ 1
+decimal_zero = ap length (decimal_one 0 (omega arith))
+
 -- ---- in a line
 
 digits_plain : (s : List ℕ) → Every Digit s → Plain s

@@ -1,13 +1,14 @@
 -- Hex spellings: the bytes back, and their form. Assumes nothing.
-use Prim.Native.Nat.{ℕ, ◌+◌, ◌-◌, ◌*◌, ◌/◌, ◌%◌, ◌<◌, ◌≤◌}
+use Prim.Native.Nat.{ℕ, ◌+◌, ◌*◌, ◌/◌, ◌%◌, ◌<◌, ◌≤◌}
 use mathlib.Core.Bool.{Bool, true, false, cond}
 use mathlib.Core.List.{List, [], ◌∷◌, ◌++◌}
 use mathlib.Core.Logic.{inl, inr}
 use mathlib.Core.Path.{◌≡◌, refl, sym, ap, ap₂, ◌∙◌}
 use native.Mathlib.Omega.{arith}
+use Rattle.std.proofs.lemmas.Bool.Decides.{nat_tests}
 use lib.Dec.{eqb, ltb}
 use lib.ListN.{length}
-use borrow.Author.Tests.{ltb-true, ltb-false, lt-ltb, le-ltb, ne_eqb}
+use borrow.Author.Tests.{ltb-true, ltb-false}
 use Rattle.bits.specs.Bits.{Byte}
 use Rattle.bits.specs.Every.{Every}
 use Rattle.text.specs.Characters.{ascii}
@@ -17,11 +18,7 @@ use Rattle.text.specs.Lines.{Plain}
 -- ---- one digit
 
 digit_back : (d : ℕ) → digit_value (hex_digit d) ≡ d
-digit_back d = by (ltb d 10) refl
-  where
-    by : (b : Bool) → ltb d 10 ≡ b → digit_value (cond b (48 + d) (55 + d)) ≡ d
-    by true e = let l = ltb-true d 10 e in rw (lt-ltb (48 + d) 65 (omega arith)) (omega arith)
-    by false e = let l = ltb-false d 10 e in rw (le-ltb (55 + d) 65 (omega arith)) (omega arith)
+digit_back d = grind (arith, nat_tests)
 
 digit_form : (d : ℕ) → d < 16 → HexDigit (hex_digit d)
 digit_form d h = by (ltb d 10) refl
@@ -35,16 +32,8 @@ record Means (c : ℕ) : Type 0 where
   there : hex_digit (digit_value c) ≡ c
 
 means : (c : ℕ) → HexDigit c → Means c
-means c (inl h) =
-    let l = h.0 in
-    let u = h.1 in
-    let v : digit_value c ≡ c - 48 = rw (lt-ltb c 65 (omega arith)) in
-    record { small = omega arith; there = ap hex_digit v ∙ rw (lt-ltb (c - 48) 10 (omega arith)) (omega arith) }
-means c (inr h) =
-    let l = h.0 in
-    let u = h.1 in
-    let v : digit_value c ≡ c - 55 = rw (le-ltb c 65 (omega arith)) in
-    record { small = omega arith; there = ap hex_digit v ∙ rw (le-ltb (c - 55) 10 (omega arith)) (omega arith) }
+means c (inl h) = let l = h.0 in let u = h.1 in record { small = grind (arith, nat_tests); there = grind (arith, nat_tests) }
+means c (inr h) = let l = h.0 in let u = h.1 in record { small = grind (arith, nat_tests); there = grind (arith, nat_tests) }
 
 -- ---- bytes
 
@@ -105,11 +94,7 @@ hex_long (b ∷ s) = let e = hex_long s in omega arith
 -- ---- in a line
 
 digit_large : (d : ℕ) → 48 ≤ hex_digit d
-digit_large d = by (ltb d 10)
-  where
-    by : (b : Bool) → 48 ≤ cond b (48 + d) (55 + d)
-    by true = omega arith
-    by false = omega arith
+digit_large d = grind (arith, nat_tests)
 
 pub hex_plain : (s : List ℕ) → Plain (hex_of s)
 unfolding hex_of
@@ -124,7 +109,7 @@ hex_plain (b ∷ s) =
 pub field_long : (s : List ℕ) → length (hex_field s) ≡ cond (eqb (length s) 0) 1 (2 * length s)
 unfolding ascii
 field_long [] = refl
-field_long (b ∷ bs) = hex_long (b ∷ bs) ∙ sym (simp (ne_eqb (length (b ∷ bs)) 0 (λ e. omega arith)))
+field_long (b ∷ bs) = grind (arith, nat_tests, hex_long (b ∷ bs))
 
 pub field_plain : (s : List ℕ) → Plain (hex_field s)
 unfolding ascii

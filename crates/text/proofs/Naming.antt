@@ -3,34 +3,17 @@ use Prim.Native.Nat.{ℕ}
 use Prim.Native.String.{String}
 use mathlib.Core.Bool.{Bool, true, false, cond}
 use mathlib.Core.List.{List, [], ◌∷◌}
-use mathlib.Core.Path.{◌≡◌, refl, sym, ap, ◌∙◌, subst}
+use mathlib.Core.Path.{◌≡◌, refl}
 use native.Mathlib.Omega.{arith}
 use lib.Dec.{eqb}
-use lib.ListN.{length}
-use Rattle.bits.specs.Memory.{written_at}
-use Rattle.bits.proofs.Memory.{written_nothing}
 use Rattle.table.specs.declared.rules.Direction.{Direction}
-use Rattle.table.specs.declared.rules.Direction.TheVariants.{Down, Up}
-use Rattle.table.specs.Table.{Row, rows, side_of, name_in}
+use Rattle.table.specs.Table.{Row, side_of, name_in}
 use Rattle.text.specs.Characters.{ascii}
 
--- the names of a CID have so many letters, both
-abbrev pub Long : ℕ → ℕ → Type 0
-Long n k = (n ≡ length (ascii (name_in rows Down k))) × (n ≡ length (ascii (name_in rows Up k)))
-
-pub long_in : {n k c : ℕ} (d : Direction) → Long n k → c ≡ k → n ≡ length (ascii (name_in rows d c))
-long_in {n} Down l e = subst (λ (x : ℕ). n ≡ length (ascii (name_in rows Down x))) (sym e) l.0
-long_in {n} Up l e = subst (λ (x : ℕ). n ≡ length (ascii (name_in rows Up x))) (sym e) l.1
-
--- the letters of a CID's name, written for a byte that is that CID
-pub put_in : (d : Direction) (out : List ℕ) (at : ℕ) {c k : ℕ} {letters : List ℕ} {x : ℕ × List ℕ} → c ≡ k → letters ≡ ascii (name_in rows d k)
-    → x ≡ written_at out at letters → x ≡ written_at out at (ascii (name_in rows d c))
-put_in d out at e n w = w ∙ ap (written_at out at) (n ∙ ap (λ (x : ℕ). ascii (name_in rows d x)) (sym e))
-
--- no letters, which change nothing, wherever the offset
-pub put_none : (d : Direction) (out : List ℕ) (at c : ℕ) → name_in rows d c ≡ "" → (at, out) ≡ written_at out at (ascii (name_in rows d c))
-unfolding ascii
-put_none d out at c e = written_nothing out at ∙ ap (λ (s : String). written_at out at (ascii s)) (sym e)
+-- the letters of one of two names
+pub ascii_cond : (b : Bool) (m n : String) → ascii (cond b m n) ≡ cond b (ascii m) (ascii n)
+ascii_cond true m n = refl
+ascii_cond false m n = refl
 
 -- whether all names of these rows pass a test, by computing
 unfoldable pub names_pass : (String → Bool) → Direction → List Row → Bool

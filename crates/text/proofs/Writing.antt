@@ -1,18 +1,26 @@
 -- What the loops of the writers keep. Digits go to their places from the right; bytes go from the left. Assumes nothing.
 use Prim.Native.Nat.{ℕ, ◌+◌, ◌-◌, ◌*◌, ◌/◌, ◌%◌, ◌<◌, ◌≤◌}
-use mathlib.Core.Path.{◌≡◌, refl, sym, ap, ◌∙◌, subst}
+use mathlib.Core.Path.{◌≡◌, refl, sym, ap, ap₂, ◌∙◌, subst}
+use borrow.Rule.Slice.PartMut.{put_mid}
 use mathlib.Core.List.{List, [], ◌∷◌, ◌++◌, append-nil}
-use native.Mathlib.Nat.{mul-le-mul_left, mul-add, mul-one}
 use native.Mathlib.Numerals.{add-one}
 use native.Mathlib.Omega.{arith}
-use lib.ListN.{length, get_or, set, take, length-append}
-use lib.Seq.{take-suc, take_all, append_snoc, length-take-le}
+use native.Mathlib.Decide.{dec_lt}
+use lib.ListN.{length, get_or, set, take, drop, length-append, length-set}
+use lib.Seq.{take-suc, take_all, append_snoc, drop-drop}
 use Rattle.bits.specs.Memory.{over, written_at}
-use Rattle.bits.proofs.Memory.{Left, Puts, no_room, over_none, over_before, over_length, written_of, puts_of, puts_then, puts_none, puts_length}
+use Rattle.bits.proofs.Memory.{Left, Puts, no_room, room, over_none, over_before, written_of, puts_then, puts_none, puts_one, puts_length}
 use Rattle.text.specs.Decimal.{decimal}
 use Rattle.text.specs.Hex.{hex_byte, hex_of}
 use Rattle.text.proofs.Decimals.{decimal_one, decimal_rest, decimal_long, decimal_some}
 use Rattle.text.proofs.Hexes.{hex_none, hex_behind, hex_long}
+
+-- bytes copied, where they have room
+pub copied : (out : List ℕ) (at n : ℕ) (bytes : List ℕ) → n ≡ at + length bytes → n ≤ length out → written_at out at bytes ≡ (n, put_mid at (n - at) out bytes)
+copied out at n bytes e h =
+    sym (room out at bytes (omega arith))
+    ∙ ap₂ (λ (k l : ℕ). (k, take at out ++ (bytes ++ drop l out))) (sym e) (omega arith)
+    ∙ ap (λ (r : List ℕ). (n, take at out ++ (bytes ++ r))) (sym (drop-drop (n - at) at out))
 
 module _ (out : List ℕ) (at n : ℕ) where
   -- the right-hand digits stand from offset i on, and those that are missing are the digits of `rest`
@@ -30,88 +38,86 @@ module _ (out : List ℕ) (at n : ℕ) where
     memory = sym (over_none out (at + k));
   }
 
-  module _ (fits : at + length (decimal n) ≤ length out) {i rest : ℕ} {o : List ℕ} (w : Spelt i rest o) where
-    sizes : length (decimal n) ≡ length (decimal rest) + length w.tail
-    sizes = ap length w.whole ∙ length-append (decimal rest) w.tail
+  module _ {i rest : ℕ} {o : List ℕ} (w : Spelt i rest o) where
+    -- where one place is left, one digit is
+    pub spelt_small : i ≤ at + 1 → rest < 10
+    spelt_small h = by (dec_lt rest 10)
+      where
+        by : Dec (rest < 10) → rest < 10
+        by (yes l) = l
+        by (no g) = let p = w.place in let ten : 10 ≤ rest = omega arith in absurd (omega (arith, decimal_long rest ten, decimal_some (rest / 10)))
 
-    pub spelt_length : length o ≡ length out
-    spelt_length = ap length w.memory ∙ over_length out i w.tail (let p = w.place in omega (arith, sizes))
+    module _ (fits : at + length (decimal n) ≤ length out) where
+      place : (at + 1 ≤ i) × (i + length w.tail ≤ length out)
+      place = let p = w.place in (omega (arith, decimal_some rest), omega (arith, ap length w.whole, length-append (decimal rest) w.tail))
 
-    pub spelt_place : (at + 1 ≤ i) × (i ≤ length out)
-    spelt_place = let p = w.place in (omega (arith, decimal_some rest), omega (arith, sizes))
+      -- one digit more, to the left of them
+      before : (j c : ℕ) → i ≡ j + 1 → set o j c ≡ over out j (c ∷ w.tail)
+      before j c e =
+          ap (λ (x : List ℕ). set x j c) (w.memory ∙ ap (λ (k : ℕ). over out k w.tail) e)
+          ∙ over_before out j c w.tail (let p = place in omega arith)
 
-    -- one digit more, to the left of them
-    before : (j c : ℕ) → i ≡ j + 1 → set o j c ≡ over out j (c ∷ w.tail)
-    before j c e =
-        ap (λ (x : List ℕ). set x j c) (w.memory ∙ ap (λ (k : ℕ). over out k w.tail) e)
-        ∙ over_before out j c w.tail (let p = spelt_place in omega arith)
+      pub spelt_more : at + 1 < i → {c : ℕ} → c ≡ 48 + rest % 10 → Spelt (i - 1) (rest / 10) (set o (i - 1) c)
+      spelt_more h {c} e =
+          let q = w.place in
+          let ten : 10 ≤ rest = large (dec_lt rest 10) in
+          let last : c ≡ 48 + rest % 10 = e in
+          record {
+            tail = c ∷ w.tail;
+            whole = w.whole ∙ ap (λ (s : List ℕ). s ++ w.tail) (decimal_rest rest ten) ∙ append_snoc (decimal (rest / 10)) (48 + rest % 10) w.tail ∙ ap (λ (x : ℕ). decimal (rest / 10) ++ (x ∷ w.tail)) (sym e);
+            place = omega (arith, decimal_long rest ten);
+            memory = before (i - 1) c (omega arith);
+          }
+        where
+          large : Dec (rest < 10) → 10 ≤ rest
+          large (yes l) = let q = w.place in absurd (omega (arith, ap length (decimal_one rest l)))
+          large (no g) = omega arith
 
-    pub spelt_more : 10 ≤ rest → Spelt (i - 1) (rest / 10) (set o (i - 1) (48 + rest % 10))
-    spelt_more h =
-        let p = spelt_place in
-        let q = w.place in
-        record {
-          tail = (48 + rest % 10) ∷ w.tail;
-          whole = w.whole ∙ ap (λ (s : List ℕ). s ++ w.tail) (decimal_rest rest h) ∙ append_snoc (decimal (rest / 10)) (48 + rest % 10) w.tail;
-          place = omega (arith, decimal_long rest h);
-          memory = before (i - 1) (48 + rest % 10) (omega arith);
-        }
+      pub spelt_all : i ≤ at + 1 → {c : ℕ} → c ≡ 48 + rest → (at + length (decimal n), set o at c) ≡ written_at out at (decimal n)
+      spelt_all h {c} e =
+          let one : decimal rest ≡ c ∷ [] = decimal_one rest (spelt_small h) ∙ ap (λ (x : ℕ). x ∷ []) (sym e) in
+          let all : decimal n ≡ c ∷ w.tail = w.whole ∙ ap (λ (s : List ℕ). s ++ w.tail) one in
+          let q = w.place in
+          written_of (record {
+            fits = fits;
+            behind = refl;
+            memory = before at c (omega (arith, ap length one)) ∙ ap (over out at) (sym all);
+          })
 
-    pub spelt_all : rest < 10 → (at + length (decimal n), set o at (48 + rest)) ≡ written_at out at (decimal n)
-    spelt_all h =
-        let one : decimal rest ≡ (48 + rest) ∷ [] = decimal_one rest h in
-        let all : decimal n ≡ (48 + rest) ∷ w.tail = w.whole ∙ ap (λ (s : List ℕ). s ++ w.tail) one in
-        let q = w.place in
-        written_of (record {
-          fits = fits;
-          behind = refl;
-          memory = before at (48 + rest) (omega (arith, ap length one)) ∙ ap (over out at) (sym all);
-        })
-
--- how bytes are spelled, each by itself in so many characters
-pub record Spelling (spell : List ℕ → List ℕ) : Type 0 where
-  pub each : ℕ → List ℕ
-  pub width : ℕ
-  pub none : spell [] ≡ []
-  pub more : (s : List ℕ) (b : ℕ) → spell (s ++ (b ∷ [])) ≡ spell s ++ each b
-  pub one : (b : ℕ) → length (each b) ≡ width
-  pub long : (s : List ℕ) → length (spell s) ≡ width * length s
-
-abbrev pub in-hex : Spelling hex_of
-in-hex = record { each = hex_byte; width = 2; none = hex_none; more = hex_behind; one = λ b. refl; long = hex_long }
-
-abbrev pub as_they_are : Spelling (λ (s : List ℕ). s)
-as_they_are = record { each = λ b. b ∷ []; width = 1; none = refl; more = λ s b. refl; one = λ b. refl; long = λ s. omega arith }
-
-module _ {spell : List ℕ → List ℕ} (S : Spelling spell) (out : List ℕ) (at : ℕ) (bytes : List ℕ) where
-  -- i of the bytes are written, and all have room
+module _ (out : List ℕ) (at : ℕ) (bytes : List ℕ) where
+  -- i of the bytes are written in hex, and all have room
   pub record Wrote (i next : ℕ) (o : List ℕ) : Type 0 where
-    pub within : i ≤ length bytes
-    pub puts : Puts out at (spell (take i bytes)) next o
-    pub room : at + S.width * length bytes ≤ length out
+    pub place : next ≡ at + 2 * i
+    pub puts : Puts out at (hex_of (take i bytes)) next o
+    pub room : at + 2 * length bytes ≤ length out
 
-  pub wrote_none : at + S.width * length bytes ≤ length out → Wrote 0 at out
-  wrote_none h = record { within = omega arith; puts = subst (λ (s : List ℕ). Puts out at s at out) (sym S.none) (puts_none out at (omega arith)); room = h }
+  pub wrote_none : at + 2 * length bytes ≤ length out → Wrote 0 at out
+  wrote_none h = record { place = omega arith; puts = subst (λ (s : List ℕ). Puts out at s at out) (sym hex_none) (puts_none out at (omega arith)); room = h }
 
   module _ {i next : ℕ} {o : List ℕ} (w : Wrote i next o) where
-    pub wrote_length : length o ≡ length out
-    wrote_length = puts_length w.puts
-
-    pub wrote_more : {n : ℕ} {m : List ℕ} → i < length bytes → Left n m o next (S.each (get_or bytes i 0)) → Wrote (i + 1) n m
-    wrote_more {n} {m} h e =
-        let b = w.puts.behind in
+    pub wrote_more : {p : List ℕ} → i < length bytes → p ≡ hex_byte (get_or bytes i 0)
+        → Wrote (i + 1) (next + 2) (set (set o next (get_or p 0 0)) (next + 1) (get_or p 1 0))
+    wrote_more {p} h e =
+        let q = w.place in
         let r = w.room in
-        let more : spell (take (i + 1) bytes) ≡ spell (take i bytes) ++ S.each (get_or bytes i 0) =
-        ap (λ (k : ℕ). spell (take k bytes)) (add-one i) ∙ ap spell (take-suc bytes i 0 h) ∙ S.more (take i bytes) (get_or bytes i 0) in
-        let past : length (spell (take i bytes)) ≡ S.width * i = S.long (take i bytes) ∙ ap (λ (k : ℕ). S.width * k) (length-take-le i bytes (omega arith)) in
-        let left : S.width * (i + 1) ≤ S.width * length bytes = mul-le-mul_left S.width (omega arith) in
-        let room : next + length (S.each (get_or bytes i 0)) ≤ length o = omega (arith, wrote_length, S.one (get_or bytes i 0), mul-add S.width i 1, mul-one S.width) in
-        record { within = omega arith; puts = subst (λ (s : List ℕ). Puts out at s n m) (sym more) (puts_then w.puts (puts_of room e)); room = r }
+        let l = puts_length w.puts in
+        let b = get_or bytes i 0 in
+        let one = puts_one o next (get_or p 0 0) (omega arith) in
+        let two = puts_one (set o next (get_or p 0 0)) (next + 1) (get_or p 1 0) (omega (arith, length-set o next (get_or p 0 0))) in
+        let pair : (get_or p 0 0 ∷ get_or p 1 0 ∷ []) ≡ hex_byte b = ap (λ (x : List ℕ). get_or x 0 0 ∷ get_or x 1 0 ∷ []) e in
+        let more : hex_of (take i bytes) ++ (get_or p 0 0 ∷ get_or p 1 0 ∷ []) ≡ hex_of (take (i + 1) bytes) =
+        ap (λ (x : List ℕ). hex_of (take i bytes) ++ x) pair ∙ sym (hex_behind (take i bytes) b) ∙ sym (ap hex_of (take-suc bytes i 0 h)) ∙ ap (λ (k : ℕ). hex_of (take k bytes)) (sym (add-one i)) in
+        let n : next + 1 + 1 ≡ next + 2 = omega arith in
+        record {
+          place = omega arith;
+          puts = subst (λ (s : List ℕ). Puts out at s (next + 2) (set (set o next (get_or p 0 0)) (next + 1) (get_or p 1 0))) more
+              (puts_then w.puts (subst (λ (k : ℕ). Puts o next (get_or p 0 0 ∷ get_or p 1 0 ∷ []) k (set (set o next (get_or p 0 0)) (next + 1) (get_or p 1 0))) n (puts_then one two)));
+          room = r;
+        }
 
-    pub wrote_all : length bytes ≤ i → Left next o out at (spell bytes)
-    wrote_all h = written_of (subst (λ (s : List ℕ). Puts out at (spell s) next o) (take_all i bytes h) w.puts)
+    pub wrote_all : length bytes ≤ i → Left next o out at (hex_of bytes)
+    wrote_all h = written_of (subst (λ (s : List ℕ). Puts out at (hex_of s) next o) (take_all i bytes h) w.puts)
 
--- no room for all of the bytes
-pub wrote_not : {spell : List ℕ → List ℕ} (S : Spelling spell) (out : List ℕ) (at : ℕ) (bytes : List ℕ) → length out < at + S.width * length bytes
-    → (at, out) ≡ written_at out at (spell bytes)
-wrote_not {spell} S out at bytes h = no_room out at (spell bytes) (omega (arith, S.long bytes))
+  -- no room for all of the bytes
+  pub wrote_not : length out < at + 2 * length bytes → (at, out) ≡ written_at out at (hex_of bytes)
+  wrote_not h = no_room out at (hex_of bytes) (omega (arith, hex_long bytes))

@@ -4,16 +4,11 @@ ghost use Rattle.bits.specs.Memory.{written_at};
 ghost use Rattle.text.specs.Decimal.{decimal};
 
 // The number of digits that `put_decimal` needs room for.
+#[tactic(auto, using(crate::proofs::Decimals::decimal_power, crate::proofs::Decimals::decimal_zero))]
 pub fn decimal_len(n: usize) -> usize
     ensures { result ≡ length (decimal n) }
 {
-    let mut k: usize = 1;
-    let mut rest = n;
-    while 10 <= rest {
-        rest /= 10;
-        k += 1;
-    }
-    k
+    n.checked_ilog10().map_or(1, |k| k as usize + 1)
 }
 
 fn digit(d: usize) -> u8
@@ -23,10 +18,12 @@ fn digit(d: usize) -> u8
     b'0' + d as u8
 }
 
+#[tactic(auto, using(bits::proofs::Memory::no_room, crate::proofs::Decimals::decimal_some))]
 pub fn put_decimal(out: &mut [u8], at: usize, n: usize) -> usize
     ensures { (result, out.new) ≡ written_at out.old at (decimal n) }
 {
     let k = decimal_len(n);
+    // Two tests, as in `put_bytes`.
     if out.len() < at {
         return at;
     }
@@ -34,10 +31,8 @@ pub fn put_decimal(out: &mut [u8], at: usize, n: usize) -> usize
         return at;
     }
     let end = at + k;
-    let mut i = end;
     let mut rest = n;
-    while 10 <= rest {
-        i -= 1;
+    for i in (at + 1..end).rev() {
         out[i] = digit(rest % 10);
         rest /= 10;
     }

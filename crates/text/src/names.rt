@@ -8,67 +8,48 @@ ghost use Rattle.text.specs.Characters.{ascii};
 use crate::raw::put_bytes;
 use table::{Direction, Rules};
 
-// How many letters a command's name has: the same in either direction.
+// By number, and no enum: a CID is a byte of the stream, any of 256.
+// The letters of a CID's two commands, the one sent down and the one sent up: none for a byte that is no CID.
+#[tactic(auto, using(crate::proofs::Naming::ascii_cond, std::proofs::lemmas::Bool::Decides::nat_tests), unfolding(crate::specs::Characters::ascii))]
+fn names(cid: u8) -> (&'static [u8], &'static [u8])
+    ensures down { result.0.now ≡ ascii (name_in rows Down cid) }
+    ensures up { result.1.now ≡ ascii (name_in rows Up cid) }
+{
+    match cid {
+        0x02 => (b"LinkCheckAns", b"LinkCheckReq"),
+        0x03 => (b"LinkADRReq", b"LinkADRAns"),
+        0x04 => (b"DutyCycleReq", b"DutyCycleAns"),
+        0x05 => (b"RXParamSetupReq", b"RXParamSetupAns"),
+        0x06 => (b"DevStatusReq", b"DevStatusAns"),
+        0x07 => (b"NewChannelReq", b"NewChannelAns"),
+        0x08 => (b"RXTimingSetupReq", b"RXTimingSetupAns"),
+        0x09 => (b"TXParamSetupReq", b"TXParamSetupAns"),
+        0x0A => (b"DlChannelReq", b"DlChannelAns"),
+        0x0D => (b"DeviceTimeAns", b"DeviceTimeReq"),
+        _ => (b"", b""),
+    }
+}
+
+// Those of the command in one direction.
+fn name(rules: Rules, cid: u8) -> &'static [u8]
+    ensures { result.now ≡ ascii (name_of rules cid) }
+{
+    let (down, up) = names(cid);
+    match rules.direction {
+        Direction::Down => down,
+        Direction::Up => up,
+    }
+}
+
+// How many letters a command's name has.
 pub fn name_len(rules: Rules, cid: u8) -> usize
     ensures { result ≡ length (ascii (name_of rules cid)) }
 {
-    match cid {
-        0x02 => 12,
-        0x03 => 10,
-        0x04 => 12,
-        0x05 => 15,
-        0x06 => 12,
-        0x07 => 13,
-        0x08 => 16,
-        0x09 => 15,
-        0x0A => 12,
-        0x0D => 13,
-        _ => 0,
-    }
-}
-
-fn put_down(out: &mut [u8], at: usize, cid: u8) -> usize
-    ensures { (result, out.new) ≡ written_at out.old at (ascii (name_in rows Down cid)) }
-{
-    match cid {
-        0x02 => put_bytes(out, at, b"LinkCheckAns"),
-        0x03 => put_bytes(out, at, b"LinkADRReq"),
-        0x04 => put_bytes(out, at, b"DutyCycleReq"),
-        0x05 => put_bytes(out, at, b"RXParamSetupReq"),
-        0x06 => put_bytes(out, at, b"DevStatusReq"),
-        0x07 => put_bytes(out, at, b"NewChannelReq"),
-        0x08 => put_bytes(out, at, b"RXTimingSetupReq"),
-        0x09 => put_bytes(out, at, b"TXParamSetupReq"),
-        0x0A => put_bytes(out, at, b"DlChannelReq"),
-        0x0D => put_bytes(out, at, b"DeviceTimeAns"),
-        _ => at,
-    }
-}
-
-fn put_up(out: &mut [u8], at: usize, cid: u8) -> usize
-    ensures { (result, out.new) ≡ written_at out.old at (ascii (name_in rows Up cid)) }
-{
-    match cid {
-        0x02 => put_bytes(out, at, b"LinkCheckReq"),
-        0x03 => put_bytes(out, at, b"LinkADRAns"),
-        0x04 => put_bytes(out, at, b"DutyCycleAns"),
-        0x05 => put_bytes(out, at, b"RXParamSetupAns"),
-        0x06 => put_bytes(out, at, b"DevStatusAns"),
-        0x07 => put_bytes(out, at, b"NewChannelAns"),
-        0x08 => put_bytes(out, at, b"RXTimingSetupAns"),
-        0x09 => put_bytes(out, at, b"TXParamSetupAns"),
-        0x0A => put_bytes(out, at, b"DlChannelAns"),
-        0x0D => put_bytes(out, at, b"DeviceTimeReq"),
-        _ => at,
-    }
+    name(rules, cid).len()
 }
 
 pub fn put_name(rules: Rules, out: &mut [u8], at: usize, cid: u8) -> usize
     ensures { (result, out.new) ≡ written_at out.old at (ascii (name_of rules cid)) }
 {
-    let direction = rules.direction;
-    match direction {
-        Direction::Down => put_down(out, at, cid),
-        Direction::Up => put_up(out, at, cid),
-    }
+    put_bytes(out, at, name(rules, cid))
 }

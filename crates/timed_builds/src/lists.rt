@@ -4,41 +4,16 @@ ghost use Rattle.build.specs.Told.{told_build};
 ghost use Rattle.timed_builds.specs.Written.{written};
 
 use crate::setting::wished;
-use build::{BuildAnswer, Record, build_mac_commands};
+use build::{BuildError, Record, build_mac_commands};
 use lent::build_four;
 use table::{Direction, Rules};
-use walk::{DownlinkStep, downlink_at};
+use walk::{CommandStep, downlink_at};
 
 // The bytes that were written, and none for a refusal.
-fn written(answer: BuildAnswer) -> u64
+fn written(answer: Result<usize, BuildError>) -> u64
     ensures { result ≡ written (told_build answer) }
 {
-    match answer {
-        BuildAnswer::Total(total) => total as u64,
-        BuildAnswer::RefusedAt {
-            reason: _,
-            place: _,
-        } => 0,
-        BuildAnswer::Refused(_) => 0,
-    }
-}
-
-fn built(slots: &[u8], out: &mut [u8]) -> u64
-    ensures { result ≤ length out.old }
-{
-    let rules = Rules {
-        direction: Direction::Down,
-    };
-    written(build_mac_commands(rules, slots, out))
-}
-
-fn built_four(records: [Record; 4], out: &mut [u8]) -> u64
-    ensures { result ≤ length out.old }
-{
-    let rules = Rules {
-        direction: Direction::Down,
-    };
-    written(build_four(rules, records, out))
+    answer.unwrap_or(0) as u64
 }
 
 // Builds the records in the first slots.
@@ -48,8 +23,7 @@ fn build_first(slots: &[u8], count: usize, out: &mut [u8]) -> u64
     if slots.len() / 8 < count {
         return 0;
     }
-    let end = 8 * count;
-    built(&slots[..end], out)
+    written(build_mac_commands(Rules::new(Direction::Down), &slots[..8 * count], out))
 }
 
 // Makes and sets a creator for each wish, packs the records into slots, and builds them.
@@ -57,14 +31,11 @@ fn build_first(slots: &[u8], count: usize, out: &mut [u8]) -> u64
 pub extern "C" fn nazhdivar_set(wishes: &[u8], slots: &mut [u8], out: &mut [u8]) -> u64
     ensures { result ≤ length out.old }
 {
-    let count = wishes.len() / 6;
-    let mut i = 0;
-    while i < count {
-        let record = wished(wishes, i);
-        record.pack(slots, i);
-        i += 1;
+    let (wishes, _) = wishes.as_chunks::<6>();
+    for (i, wish) in wishes.iter().enumerate() {
+        wished(*wish).pack(slots, i);
     }
-    build_first(slots, count, out)
+    build_first(slots, wishes.len(), out)
 }
 
 // The same for four wishes, whose records are lent as structs.
@@ -72,16 +43,12 @@ pub extern "C" fn nazhdivar_set(wishes: &[u8], slots: &mut [u8], out: &mut [u8])
 pub extern "C" fn nazhdivar_set_four(wishes: &[u8], out: &mut [u8]) -> u64
     ensures { result ≤ length out.old }
 {
-    if wishes.len() < 24 {
+    let (wishes, _) = wishes.as_chunks::<6>();
+    let [a, b, c, d, ..] = wishes else {
         return 0;
-    }
-    let records = [
-        wished(wishes, 0),
-        wished(wishes, 1),
-        wished(wishes, 2),
-        wished(wishes, 3),
-    ];
-    built_four(records, out)
+    };
+    let records = [wished(*a), wished(*b), wished(*c), wished(*d)];
+    written(build_four(Rules::new(Direction::Down), records, out))
 }
 
 // Reads the commands of a stream, packs their records into slots, and builds them.
@@ -91,19 +58,11 @@ pub extern "C" fn nazhdivar_resend(stream: &[u8], slots: &mut [u8], out: &mut [u
 {
     let mut at = 0;
     let mut count = 0;
-    loop {
-        let found = downlink_at(stream, at);
-        match found {
-            DownlinkStep::Command(command, next) => {
-                let record = Record::of_downlink(command);
-                record.pack(slots, count);
-                count += 1;
-                at = next;
-            }
-            DownlinkStep::End => break,
-            DownlinkStep::Stop { reason: _, at: _ } => break,
-            DownlinkStep::Refused(_) => break,
-        }
+    // A while, since there is no iterator over the steps: the proof speaks of the offset.
+    while let CommandStep::Command(command, next) = downlink_at(stream, at) {
+        Record::from(command).pack(slots, count);
+        count += 1;
+        at = next;
     }
     build_first(slots, count, out)
 }

@@ -1,117 +1,87 @@
-// Creators of commands that a device is sent, each with every field set from five bytes.
-ghost use Rattle.std.specs.Prelude.{◌+◌, ◌*◌, ◌<◌, ◌≤◌, length};
-
+// Creators of commands that a device is sent, each with every field set from five bytes. No checked setter refuses here: each is given what its field holds.
 use build::Record;
 use creators::{
-    DevStatusReqCreator, DeviceTimeAnsCreator, DlChannelReqCreator, DownlinkMacCommandCreator,
-    DutyCycleReqCreator, LinkADRReqCreator, LinkCheckAnsCreator, NewChannelReqCreator,
-    RXParamSetupReqCreator, RXTimingSetupReqCreator, TXParamSetupReqCreator,
+    Creator, DevStatusReqCreator, DeviceTimeAnsCreator, DlChannelReqCreator,
+    DownlinkMacCommandCreator, DutyCycleReqCreator, LinkADRReqCreator, LinkCheckAnsCreator,
+    NewChannelReqCreator, RXParamSetupReqCreator, RXTimingSetupReqCreator, TXParamSetupReqCreator,
 };
 use fields::{ChannelMask2, DLSettings, DataRateRange, Frequency, Redundancy};
 
-fn link_check_ans(b: [u8; 5]) -> DownlinkMacCommandCreator {
-    let creator = LinkCheckAnsCreator::new()
-        .set_margin(b[0])
-        .set_gateway_count(b[1]);
-    DownlinkMacCommandCreator::from_link_check_ans(creator)
+fn link_check_ans([a, b, _, _, _]: [u8; 5]) -> LinkCheckAnsCreator {
+    LinkCheckAnsCreator::new()
+        .set_margin(a)
+        .set_gateway_count(b)
 }
 
-fn link_adr_req(b: [u8; 5]) -> DownlinkMacCommandCreator {
-    let rated = LinkADRReqCreator::new().set_data_rate(b[0] / 16);
-    let creator = rated.creator;
-    let powered = creator.set_tx_power(b[0] % 16);
-    let creator = powered.creator;
-    let creator = creator
-        .set_channel_mask(ChannelMask2::from([b[1], b[2]]))
-        .set_redundancy(Redundancy::from(b[3]));
-    DownlinkMacCommandCreator::from_link_adr_req(creator)
+fn link_adr_req([a, b, c, d, _]: [u8; 5]) -> LinkADRReqCreator {
+    let mut creator = LinkADRReqCreator::new();
+    let _ = creator.set_data_rate(a / 16);
+    let _ = creator.set_tx_power(a % 16);
+    creator
+        .set_channel_mask(ChannelMask2::from([b, c]))
+        .set_redundancy(Redundancy::from(d))
 }
 
-fn duty_cycle_req(b: [u8; 5]) -> DownlinkMacCommandCreator {
-    let creator = DutyCycleReqCreator::new().set_max_duty_cycle(b[0] % 16);
-    DownlinkMacCommandCreator::from_duty_cycle_req(creator)
+fn duty_cycle_req([a, ..]: [u8; 5]) -> DutyCycleReqCreator {
+    DutyCycleReqCreator::new().set_max_duty_cycle(a % 16)
 }
 
-fn rx_param_setup_req(b: [u8; 5]) -> DownlinkMacCommandCreator {
-    let creator = RXParamSetupReqCreator::new()
-        .set_dl_settings(DLSettings::from(b[0]))
-        .set_frequency(Frequency::from([b[1], b[2], b[3]]));
-    DownlinkMacCommandCreator::from_rx_param_setup_req(creator)
+fn rx_param_setup_req([a, b, c, d, _]: [u8; 5]) -> RXParamSetupReqCreator {
+    RXParamSetupReqCreator::new()
+        .set_dl_settings(DLSettings::from(a))
+        .set_frequency(Frequency::from([b, c, d]))
 }
 
-fn new_channel_req(b: [u8; 5]) -> DownlinkMacCommandCreator {
-    let creator = NewChannelReqCreator::new()
-        .set_channel_index(b[0])
-        .set_frequency(Frequency::from([b[1], b[2], b[3]]))
-        .set_data_rate_range(DataRateRange::from(b[4]));
-    DownlinkMacCommandCreator::from_new_channel_req(creator)
+fn new_channel_req([a, b, c, d, e]: [u8; 5]) -> NewChannelReqCreator {
+    NewChannelReqCreator::new()
+        .set_channel_index(a)
+        .set_frequency(Frequency::from([b, c, d]))
+        .set_data_rate_range(DataRateRange::from(e))
 }
 
-fn rx_timing_setup_req(b: [u8; 5]) -> DownlinkMacCommandCreator {
-    let delayed = RXTimingSetupReqCreator::new().set_delay(b[0] % 16);
-    let creator = delayed.creator;
-    DownlinkMacCommandCreator::from_rx_timing_setup_req(creator)
+fn rx_timing_setup_req([a, ..]: [u8; 5]) -> RXTimingSetupReqCreator {
+    let mut creator = RXTimingSetupReqCreator::new();
+    let _ = creator.set_delay(a % 16);
+    creator
 }
 
-fn tx_param_setup_req(b: [u8; 5]) -> DownlinkMacCommandCreator {
-    let limited = TXParamSetupReqCreator::new()
+fn tx_param_setup_req([a, ..]: [u8; 5]) -> TXParamSetupReqCreator {
+    let mut creator = TXParamSetupReqCreator::new()
         .set_downlink_dwell_time()
-        .set_uplink_dwell_time()
-        .set_max_eirp(b[0] % 16);
-    let creator = limited.creator;
-    DownlinkMacCommandCreator::from_tx_param_setup_req(creator)
+        .set_uplink_dwell_time();
+    let _ = creator.set_max_eirp(a % 16);
+    creator
 }
 
-fn dl_channel_req(b: [u8; 5]) -> DownlinkMacCommandCreator {
-    let creator = DlChannelReqCreator::new()
-        .set_channel_index(b[0])
-        .set_frequency(Frequency::from([b[1], b[2], b[3]]));
-    DownlinkMacCommandCreator::from_dl_channel_req(creator)
+fn dl_channel_req([a, b, c, d, _]: [u8; 5]) -> DlChannelReqCreator {
+    DlChannelReqCreator::new()
+        .set_channel_index(a)
+        .set_frequency(Frequency::from([b, c, d]))
 }
 
-fn wide(byte: u8) -> u32
-    ensures { result < 256 }
-{
-    byte as u32
+fn device_time_ans([a, b, c, d, e]: [u8; 5]) -> DeviceTimeAnsCreator {
+    let mut creator = DeviceTimeAnsCreator::new().set_seconds(u32::from_le_bytes([a, b, c, d]));
+    let _ = creator.set_nano_seconds(3_906_250 * u32::from(e));
+    creator
 }
 
-fn device_time_ans(b: [u8; 5]) -> DownlinkMacCommandCreator {
-    let seconds = wide(b[0]) + 256 * wide(b[1]) + 65_536 * wide(b[2]) + 16_777_216 * wide(b[3]);
-    let timed = DeviceTimeAnsCreator::new()
-        .set_seconds(seconds)
-        .set_nano_seconds(3_906_250 * wide(b[4]));
-    let creator = timed.creator;
-    DownlinkMacCommandCreator::from_device_time_ans(creator)
-}
-
-// The creator that a CID names. A byte that is no CID of the table names DevStatusReq's.
+// The creator that a CID names, by number: it is a byte of what is read, any of 256. A byte that is no CID of the table names DevStatusReq's.
 fn set(cid: u8, b: [u8; 5]) -> DownlinkMacCommandCreator {
     match cid {
-        0x02 => link_check_ans(b),
-        0x03 => link_adr_req(b),
-        0x04 => duty_cycle_req(b),
-        0x05 => rx_param_setup_req(b),
-        0x07 => new_channel_req(b),
-        0x08 => rx_timing_setup_req(b),
-        0x09 => tx_param_setup_req(b),
-        0x0A => dl_channel_req(b),
-        0x0D => device_time_ans(b),
-        _ => DownlinkMacCommandCreator::from_dev_status_req(DevStatusReqCreator::new()),
+        0x02 => DownlinkMacCommandCreator::of(link_check_ans(b)),
+        0x03 => DownlinkMacCommandCreator::of(link_adr_req(b)),
+        0x04 => DownlinkMacCommandCreator::of(duty_cycle_req(b)),
+        0x05 => DownlinkMacCommandCreator::of(rx_param_setup_req(b)),
+        0x07 => DownlinkMacCommandCreator::of(new_channel_req(b)),
+        0x08 => DownlinkMacCommandCreator::of(rx_timing_setup_req(b)),
+        0x09 => DownlinkMacCommandCreator::of(tx_param_setup_req(b)),
+        0x0A => DownlinkMacCommandCreator::of(dl_channel_req(b)),
+        0x0D => DownlinkMacCommandCreator::of(device_time_ans(b)),
+        _ => DownlinkMacCommandCreator::of(DevStatusReqCreator::new()),
     }
 }
 
-// The record of the creator that is made and set from the wish at a place: six bytes, the CID and five for the fields.
-pub(crate) fn wished(wishes: &[u8], i: usize) -> Record
-    requires { 6 * i + 6 ≤ length wishes.now }
-{
-    let at = 6 * i;
-    let b = [
-        wishes[at + 1],
-        wishes[at + 2],
-        wishes[at + 3],
-        wishes[at + 4],
-        wishes[at + 5],
-    ];
-    let creator = set(wishes[at], b);
-    Record::of_downlink_creator(creator)
+// The record of the creator that is made and set from a wish: the CID, and five bytes for the fields.
+pub(crate) fn wished([cid, a, b, c, d, e]: [u8; 6]) -> Record {
+    Record::from(set(cid, [a, b, c, d, e]))
 }

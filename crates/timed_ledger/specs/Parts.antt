@@ -1,5 +1,5 @@
 -- What there is to tell of a replay, in numbers: each setting has one to be asked by, and each part of the answer one to be told by.
-use Rattle.std.specs.Prelude.{ℕ, List, [], ◌∷◌, map, get_or}
+use Rattle.std.specs.Prelude.{ℕ, false, List, [], ◌∷◌, map, get_or, Option as Maybe, None, is_some, unwrap_or}
 use Rattle.std.proofs.Math.Option.{Option, none, some}
 use Rattle.bits.specs.Bits.{bit_of}
 use Rattle.table.specs.Answers.{Consent, given, refused}
@@ -25,7 +25,7 @@ use Rattle.ledger.specs.Settings.{
   channel_rates,
   downlink_frequency,
 }
-use Rattle.ledger.specs.declared.settings.Held.{Held}
+use Rattle.ledger.specs.declared.settings.Parent.{Parent}
 
 -- the settings in their order, from 0 on; the last three are a channel's
 abbrev pub settings : (channel : ℕ) → List Setting
@@ -49,10 +49,14 @@ settings channel =
 abbrev pub setting_by : (number channel : ℕ) → Option Setting
 setting_by number channel = get_or (map some (settings channel)) number none
 
--- what is held of it; zeros where there is no such setting
-abbrev pub asked_of : Option Setting → (Setting → List Request) → Held
-asked_of none held = in_hand none
+-- what is held of it; nothing where there is no such setting
+abbrev pub asked_of : Option Setting → (Setting → List Request) → Maybe Parent
+asked_of none held = None
 asked_of (some σ) held = in_hand (shown σ (held σ))
+
+-- zeros where there is no parent
+abbrev pub shown_of : Maybe Parent → Parent
+shown_of h = unwrap_or h (record { line = 0; frame = 0; offset = 0; value = 0; unchanged = false })
 
 -- 0 for a text that is accepted
 abbrev pub verdict_number : Consent → ℕ
@@ -60,21 +64,21 @@ verdict_number (given _) = 0
 verdict_number (refused k) = k
 
 -- the parts in their order, from 0 on
-abbrev pub parts : (verdict line lines listed : ℕ) → Held → List ℕ
+abbrev pub parts : (verdict line lines listed : ℕ) → Maybe Parent → List ℕ
 parts verdict line lines listed h =
     verdict ∷
     line ∷
     lines ∷
     listed ∷
-    bit_of h.known ∷
-    h.line ∷
-    h.frame ∷
-    h.offset ∷
-    h.value ∷
-    bit_of h.unchanged ∷ []
+    bit_of (is_some h) ∷
+    (shown_of h).line ∷
+    (shown_of h).frame ∷
+    (shown_of h).offset ∷
+    (shown_of h).value ∷
+    bit_of (shown_of h).unchanged ∷ []
 
 -- the part with this number, and 0 for any other
-abbrev pub part_of : (part verdict line lines listed : ℕ) → Held → ℕ
+abbrev pub part_of : (part verdict line lines listed : ℕ) → Maybe Parent → ℕ
 part_of part verdict line lines listed h = get_or (parts verdict line lines listed h) part 0
 
 -- one part of what a replay came to, a setting being asked, and the lent numbers

@@ -1,27 +1,36 @@
 // A text replayed into a fresh ledger, and one number of what there is to tell then.
-ghost use Rattle.std.specs.Prelude.{◌≡◌};
+ghost use Rattle.std.specs.Prelude.{◌≡◌, None};
 ghost use Rattle.bits.specs.Bits.{bit_of};
-ghost use Rattle.table.specs.Told.{told_verdict};
 ghost use Rattle.ledger.specs.Asked.{fresh_ledger};
 ghost use Rattle.ledger.specs.Book.{replayed};
 ghost use Rattle.ledger.specs.Memory.{book_of, held_in};
+ghost use Rattle.ledger.specs.Told.{told_replay, told_line};
 ghost use Rattle.timed_ledger.specs.Parts.{setting_by, asked_of, verdict_number, part_of, told_of};
 
-use ledger::{Held, Ledger, replay_trace};
-use table::Verdict;
+use ledger::{BadLine, Ledger, Parent, replay_trace};
 
 // The refusal's number, and 0 for none.
-fn verdict_number(verdict: Verdict) -> u64
-    ensures { result ≡ verdict_number (told_verdict verdict) }
+fn verdict_number(run: Result<(), BadLine>) -> u64
+    ensures { result ≡ verdict_number (told_replay run) }
 {
-    match verdict {
-        Verdict::Accepted => 0,
-        Verdict::Refused(reason) => reason.number() as u64,
+    match run {
+        Ok(()) => 0,
+        Err(bad) => bad.reason.number() as u64,
     }
 }
 
-// What a ledger holds of the setting with this number, of this channel where it is a channel's.
-fn ask(ledger: Ledger, setting: u8, channel: u8) -> Held
+// The number of the line that is refused, and 0 for none.
+fn line_number(run: Result<(), BadLine>) -> u64
+    ensures { result ≡ told_line run }
+{
+    match run {
+        Ok(()) => 0,
+        Err(bad) => bad.line,
+    }
+}
+
+// What a ledger holds of the setting with this number, of this channel where it is a channel's. A number, for C.
+fn ask(ledger: Ledger, setting: u8, channel: u8) -> Option<Parent>
     ensures { result ≡ asked_of (setting_by setting channel) (held_in ledger.held) }
 {
     match setting {
@@ -40,37 +49,46 @@ fn ask(ledger: Ledger, setting: u8, channel: u8) -> Held
         12 => ledger.channel_frequency(channel),
         13 => ledger.channel_rates(channel),
         14 => ledger.downlink_frequency(channel),
-        _ => Held {
-            known: false,
-            line: 0,
-            frame: 0,
-            offset: 0,
-            value: 0,
-            unchanged: false,
-        },
+        _ => None,
     }
 }
 
 fn bit(on: bool) -> u64
     ensures { result ≡ bit_of on }
 {
-    if on { 1 } else { 0 }
+    u64::from(on)
 }
 
-fn part_of(verdict: u64, line: u64, lines: u64, listed: u64, held: Held, part: u8) -> u64
-    ensures { result ≡ part_of part verdict line lines listed held }
+// One part of what there is to tell. All are numbers, for C, which gets one of them at a call.
+fn part_of(
+    verdict: u64,
+    line: u64,
+    lines: u64,
+    listed: u64,
+    parent: Option<Parent>,
+    part: u8,
+) -> u64
+    ensures { result ≡ part_of part verdict line lines listed parent }
 {
+    let known = parent.is_some();
+    let shown = parent.unwrap_or(Parent {
+        line: 0,
+        frame: 0,
+        offset: 0,
+        value: 0,
+        unchanged: false,
+    });
     match part {
         0 => verdict,
         1 => line,
         2 => lines,
         3 => listed,
-        4 => bit(held.known),
-        5 => held.line,
-        6 => held.frame,
-        7 => held.offset,
-        8 => held.value as u64,
-        9 => bit(held.unchanged),
+        4 => bit(known),
+        5 => shown.line,
+        6 => shown.frame,
+        7 => shown.offset,
+        8 => shown.value as u64,
+        9 => bit(shown.unchanged),
         _ => 0,
     }
 }
@@ -86,11 +104,17 @@ pub extern "C" fn nazhdivar_ledger(
 ) -> u64
     ensures { (result, list.new) ≡ told_of part (setting_by setting channel) (replayed text.now (book_of fresh_ledger list.old)) }
 {
-    let run = replay_trace(Ledger::new(), text, list);
-    let verdict = run.verdict;
-    let number = verdict_number(verdict);
-    let after = run.ledger;
-    let held = ask(after, setting, channel);
-    let listed = after.listed as u64;
-    part_of(number, run.line, after.lines, listed, held, part)
+    let mut ledger = Ledger::new();
+    let run = replay_trace(&mut ledger, text, list);
+    let lines = ledger.lines;
+    let listed = ledger.listed as u64;
+    let parent = ask(ledger, setting, channel);
+    part_of(
+        verdict_number(run),
+        line_number(run),
+        lines,
+        listed,
+        parent,
+        part,
+    )
 }

@@ -1,7 +1,7 @@
 -- The sum over the commands of a walk, step by step. Assumes nothing.
 use Prim.Native.Nat.{ℕ, ◌+◌, ◌≤◌, ◌<◌}
 use mathlib.Core.List.{List}
-use mathlib.Core.Path.{◌≡◌, sym, ap, ◌∙◌, subst}
+use mathlib.Core.Path.{◌≡◌, refl, sym, ap, ◌∙◌, subst}
 use native.Mathlib.Omega.{arith}
 use lib.ListN.{length, drop, drop_of_length-le}
 use Rattle.table.specs.Answers.{Answer, given, refused}
@@ -9,6 +9,9 @@ use Rattle.walk.specs.Step.{Found, ended, command, stopped, found_at}
 use Rattle.walk.specs.Walk.{Rule, Cmd, Walk, walk_from}
 use Rattle.walk.proofs.Laws.{walk_nil, walk_ends}
 use Rattle.walk.proofs.Steps.{Here, past, ends, goes, here, walk_goes, found_goes, found_command}
+use Rattle.payloads.specs.declared.downlink.DownlinkMacCommand.{DownlinkMacCommand}
+use Rattle.walk.specs.declared.command.CommandStep.{CommandStep}
+use Rattle.walk.specs.Told.{told_downlink_step}
 use Rattle.timed_reads.specs.Fields.{worth, worths}
 
 -- a step gave no command
@@ -17,6 +20,13 @@ Stays (given (command c next)) = ⊥
 Stays (given ended) = Unit
 Stays (given (stopped n at)) = Unit
 Stays (refused n) = Unit
+
+pub no_command : (found : CommandStep DownlinkMacCommand) → ((c : DownlinkMacCommand) (next : ℕ) → found ≡ CommandStep.Command c next → ⊥)
+    → Stays (told_downlink_step found)
+no_command CommandStep.End none = tt
+no_command (CommandStep.Command c next) none = absurd (none c next refl)
+no_command (CommandStep.Stop reason at) none = tt
+no_command (CommandStep.Refused n) none = tt
 
 module _ (L : Rule) (s : List ℕ) where
   -- the sum over the commands from an offset on

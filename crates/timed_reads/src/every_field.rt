@@ -1,8 +1,7 @@
 // What the fields of the commands say that a device is sent.
-ghost use Rattle.std.specs.Prelude.{◌<◌, ◌≡◌};
+ghost use Rattle.std.specs.Prelude.{◌≡◌};
 ghost use Rattle.std.specs.Float.{binary32};
 ghost use Rattle.std.specs.Float.Ieee.{to_bits};
-ghost use Rattle.bits.specs.Bits.{bit_of};
 ghost use Rattle.payloads.specs.Bytes.{
   device_time_ans_bytes,
   dl_channel_req_bytes,
@@ -36,22 +35,10 @@ use payloads::{
 };
 use walk::{DownlinkStep, downlink_at};
 
-fn bank(byte: u8) -> u64
-    ensures { (result ≡ byte) × (result < 256) }
-{
-    byte as u64
-}
-
-fn bit(on: bool) -> u8
-    ensures { result ≡ bit_of on }
-{
-    if on { 1 } else { 0 }
-}
-
 fn link_check_ans(p: LinkCheckAnsPayload) -> u64
     ensures { result ≡ sum (link_check_ans_says (link_check_ans_bytes p)) }
 {
-    (p.margin() as u64) + (p.gateway_count() as u64)
+    u64::from(p.margin()) + u64::from(p.gateway_count())
 }
 
 fn link_adr_req(p: LinkADRReqPayload) -> u64
@@ -59,12 +46,12 @@ fn link_adr_req(p: LinkADRReqPayload) -> u64
 {
     let mask = p.channel_mask().as_ref();
     let redundancy = p.redundancy();
-    (p.data_rate() as u64)
-        + (p.tx_power() as u64)
-        + (redundancy.channel_mask_control() as u64)
-        + (redundancy.number_of_transmissions() as u64)
-        + bank(mask[0])
-        + bank(mask[1])
+    u64::from(p.data_rate())
+        + u64::from(p.tx_power())
+        + u64::from(redundancy.channel_mask_control())
+        + u64::from(redundancy.number_of_transmissions())
+        + u64::from(mask[0])
+        + u64::from(mask[1])
 }
 
 // The bits of the float.
@@ -77,48 +64,47 @@ fn max_duty_cycle_bits(p: DutyCycleReqPayload) -> u32
 fn duty_cycle_req(p: DutyCycleReqPayload) -> u64
     ensures { result ≡ sum (duty_cycle_req_says (duty_cycle_req_bytes p)) }
 {
-    (p.max_duty_cycle_raw() as u64) + (max_duty_cycle_bits(p) as u64)
+    u64::from(p.max_duty_cycle_raw()) + u64::from(max_duty_cycle_bits(p))
 }
 
 fn rx_param_setup_req(p: RXParamSetupReqPayload) -> u64
     ensures { result ≡ sum (rx_param_setup_req_says (rx_param_setup_req_bytes p)) }
 {
     let settings = p.dl_settings();
-    (settings.rx1_dr_offset() as u64)
-        + (settings.rx2_data_rate() as u64)
-        + (p.frequency().value() as u64)
+    u64::from(settings.rx1_dr_offset())
+        + u64::from(settings.rx2_data_rate())
+        + u64::from(p.frequency().value())
 }
 
 fn new_channel_req(p: NewChannelReqPayload) -> u64
     ensures { result ≡ sum (new_channel_req_says (new_channel_req_bytes p)) }
 {
     let range = p.data_rate_range();
-    (p.channel_index() as u64)
-        + (p.frequency().value() as u64)
-        + (range.max_data_rate() as u64)
-        + (range.min_data_rate() as u64)
+    u64::from(p.channel_index())
+        + u64::from(p.frequency().value())
+        + u64::from(range.max_data_rate())
+        + u64::from(range.min_data_rate())
 }
 
 fn tx_param_setup_req(p: TXParamSetupReqPayload) -> u64
     ensures { result ≡ sum (tx_param_setup_req_says (tx_param_setup_req_bytes p)) }
 {
-    (bit(p.downlink_dwell_time()) as u64)
-        + (bit(p.uplink_dwell_time()) as u64)
-        + (p.max_eirp() as u64)
+    u64::from(p.downlink_dwell_time()) + u64::from(p.uplink_dwell_time()) + u64::from(p.max_eirp())
 }
 
 fn dl_channel_req(p: DlChannelReqPayload) -> u64
     ensures { result ≡ sum (dl_channel_req_says (dl_channel_req_bytes p)) }
 {
-    (p.channel_index() as u64) + (p.frequency().value() as u64)
+    u64::from(p.channel_index()) + u64::from(p.frequency().value())
 }
 
 fn device_time_ans(p: DeviceTimeAnsPayload) -> u64
     ensures { result ≡ sum (device_time_ans_says (device_time_ans_bytes p)) }
 {
-    (p.seconds() as u64) + (p.nano_seconds() as u64)
+    u64::from(p.seconds()) + u64::from(p.nano_seconds())
 }
 
+#[tactic(auto, unfolding(crate::specs::Fields::worth))]
 fn command_worth(command: DownlinkMacCommand) -> u64
     ensures { result ≡ worth (downlink_cmd command) }
 {
@@ -129,7 +115,7 @@ fn command_worth(command: DownlinkMacCommand) -> u64
         DownlinkMacCommand::RXParamSetupReq(p) => rx_param_setup_req(p),
         DownlinkMacCommand::DevStatusReq(_) => 0,
         DownlinkMacCommand::NewChannelReq(p) => new_channel_req(p),
-        DownlinkMacCommand::RXTimingSetupReq(p) => p.delay() as u64,
+        DownlinkMacCommand::RXTimingSetupReq(p) => u64::from(p.delay()),
         DownlinkMacCommand::TXParamSetupReq(p) => tx_param_setup_req(p),
         DownlinkMacCommand::DlChannelReq(p) => dl_channel_req(p),
         DownlinkMacCommand::DeviceTimeAns(p) => device_time_ans(p),
@@ -143,17 +129,10 @@ pub extern "C" fn nazhdivar_fields(stream: &[u8]) -> u64
 {
     let mut at: usize = 0;
     let mut total: u64 = 0;
-    loop {
-        let found = downlink_at(stream, at);
-        match found {
-            DownlinkStep::Command(command, next) => {
-                let more = command_worth(command);
-                total = (total + more % 4_294_967_296) % 4_294_967_296;
-                at = next;
-            }
-            DownlinkStep::End => break total,
-            DownlinkStep::Stop { reason: _, at: _ } => break total,
-            DownlinkStep::Refused(_) => break total,
-        }
+    // A while, since there is no iterator over the steps: the proof speaks of the offset.
+    while let DownlinkStep::Command(command, next) = downlink_at(stream, at) {
+        total = (total + command_worth(command) % 4_294_967_296) % 4_294_967_296;
+        at = next;
     }
+    total
 }

@@ -13,16 +13,7 @@ use walk::Step;
 fn is_command(found: Step) -> u64
     ensures { result ≡ is_command (told_step found) }
 {
-    match found {
-        Step::Command {
-            cid: _,
-            len: _,
-            next: _,
-        } => 1,
-        Step::End => 0,
-        Step::Stop { reason: _, at: _ } => 0,
-        Step::Refused(_) => 0,
-    }
+    u64::from(matches!(found, Step::Command { .. }))
 }
 
 // Makes an iterator, calls its `next` n times and once more, and answers whether the last call gave a command.
@@ -30,8 +21,5 @@ fn is_command(found: Step) -> u64
 pub extern "C" fn nazhdivar_nth(stream: &[u8], n: usize) -> u64
     ensures { result ≡ is_command (nth_answer (length_of sent_down) stream.now n) }
 {
-    let rules = Rules {
-        direction: Direction::Down,
-    };
-    is_command(nth_step(rules, stream, n))
+    is_command(nth_step(Rules::new(Direction::Down), stream, n))
 }

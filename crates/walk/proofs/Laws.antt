@@ -112,7 +112,7 @@ module _ (L : Rule) where
   }
   part at (ends {e = x} h) (p ∷ ps) coming e =
       let none_is : [] ≡ p ∷ (ps ++ coming) = sym (ap (λ (w : Walk). w.cmds) (walk_ends h)) ∙ e in
-      let no_way : ◌≡◌ {A = ℕ} 0 1 = cc in absurd (omega arith)
+      absurd cc
   part at (goes c b r h v) (p ∷ ps) coming e =
       let w = walk_command at c b r h in
       let same : placed at c b ∷ (walk_from L (at + (1 + length b)) r).cmds ≡ p ∷ (ps ++ coming) = sym (ap (λ (w : Walk). w.cmds) w) ∙ e in
@@ -140,4 +140,4 @@ module _ (L : Rule) where
   stands {at} {s} (ends h) e = subst (λ (w : Walk). Ends L at s w.ending) (sym (walk_ends h)) h
   stands {at} (goes c b r h v) e =
       let none_is : placed at c b ∷ (walk_from L (at + (1 + length b)) r).cmds ≡ [] = sym (ap (λ (w : Walk). w.cmds) (walk_command at c b r h)) ∙ e in
-      let no_way : ◌≡◌ {A = ℕ} 0 1 = cc in absurd (omega arith)
+      absurd cc

@@ -1,4 +1,3 @@
-pub mod Commands
 pub mod Determined
 pub mod FixedPart
 pub mod Laws

@@ -1,23 +1,15 @@
--- The offset behind a command, where one is seen there, and where there is room for any. Assumes nothing.
+-- The offset behind a command, where there is room for any. Assumes nothing.
 use Prim.Native.Nat.{ℕ, ◌+◌, ◌≤◌}
 use mathlib.Core.List.{List}
 use mathlib.Core.Option.{some}
-use mathlib.Core.Path.{◌≡◌, subst}
+use mathlib.Core.Path.{◌≡◌}
 use native.Mathlib.Omega.{arith}
 use lib.ListN.{length, get_or}
 use Rattle.table.specs.declared.rules.Rules.{Rules}
 use Rattle.table.specs.Table.{length_of}
 use Rattle.table.proofs.Lengths.{at_most_five}
-use Rattle.walk.specs.declared.lanes.Onward.{Onward}
-use Rattle.walk.specs.Lanes.{Leads, Within, Comes}
-use Rattle.walk.specs.Walk.{Rule}
+use Rattle.walk.specs.Lanes.{Leads}
 use Rattle.walk.proofs.Steps.{step_command, leads_behind}
-
-pub within : (s : List ℕ) (o : Onward) {next : ℕ} → Within s o → o ≡ Onward.To next → next ≤ length s
-within s o p e = subst (λ (o : Onward). Within s o) e p
-
-pub comes : (L : Rule) (s : List ℕ) (at : ℕ) (o : Onward) {next : ℕ} → Comes L s at o × Within s o → o ≡ Onward.To next → Leads L s at 1 next × (next ≤ length s)
-comes L s at o p e = (subst (λ (o : Onward). Comes L s at o) e p.0, within s o p.1 e)
 
 -- no command is longer than six bytes
 pub any : (rules : Rules) (s : List ℕ) (at : ℕ) {n : ℕ} → at + 6 ≤ length s → length_of rules (get_or s at 0) ≡ some n

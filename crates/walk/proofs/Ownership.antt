@@ -140,15 +140,15 @@ module _ (L : Rule) (s : List ℕ) where
 
   same_ending : (d e : Ending) → place_of d ≡ place_of e → ◌≡◌ {A = Answer (Found Cmd)} (given (first_of [] d)) (given (first_of [] e)) → d ≡ e
   same_ending (end o) (end o') p q = ap end p
-  same_ending (end o) (stop n o') p q = let no_way : ◌≡◌ {A = ℕ} 0 1 = cc in absurd (omega arith)
-  same_ending (stop n o) (end o') p q = let no_way : ◌≡◌ {A = ℕ} 0 1 = cc in absurd (omega arith)
+  same_ending (end o) (stop n o') p q = absurd cc
+  same_ending (stop n o) (end o') p q = absurd cc
   same_ending (stop n o) (stop n' o') p q = cc
 
   no_other : (at : ℕ) {ps : List Placed} {e : Ending} → Steps L s at ps e → walk_from L at (drop at s) ≡ record { cmds = ps; ending = e }
   no_other at (finds e f p) = by (here L s at)
     where
       by : Here L s at → walk_from L at (drop at s) ≡ finish e
-      by (past h) = let q = found_past L s h in let no_way : ◌≡◌ {A = ℕ} 0 1 = cc in absurd (omega arith)
+      by (past h) = let q = found_past L s h in absurd cc
       by (ends_here d h x) = walk_ends L x ∙ ap finish (same_ending d e (ends_at L x ∙ sym p) (sym (found_ends L s h x) ∙ f))
       by (goes_here c m g) = absurd (ended_no_command e (sym f ∙ found_goes L s g))
   no_other at (hands c {e = e} f st) = walk_goes L s (found_command L s f) ∙ ap (after (record { at = at; cmd = c })) (no_other _ st)
@@ -163,13 +163,13 @@ module _ (L : Rule) (s : List ℕ) where
   stops_stay at n o f = subst (λ (k : ℕ). step_at L s k ≡ given (stopped n o)) (stays (here L s at)) f
     where
       stays_at : (e : Ending) → place_of e ≡ at → in_numbers (given (first_of [] e)) ≡ given (stopped n o) → at ≡ o
-      stays_at (end k) p q = let no_way : ◌≡◌ {A = ℕ} 0 1 = cc in absurd (omega arith)
+      stays_at (end k) p q = absurd cc
       stays_at (stop m k) p q = cc
 
       stays : Here L s at → at ≡ o
-      stays (past h) = let q = ap in_numbers (found_past L s h) in let no_way : ◌≡◌ {A = ℕ} 0 1 = cc in absurd (omega arith)
+      stays (past h) = let q = ap in_numbers (found_past L s h) in absurd cc
       stays (ends_here e h x) = stays_at e (ends_at L x) (sym (ap in_numbers (found_ends L s h x)) ∙ f)
-      stays (goes_here c m g) = let q = ap in_numbers (found_goes L s g) in let no_way : ◌≡◌ {A = ℕ} 0 1 = cc in absurd (omega arith)
+      stays (goes_here c m g) = let q = ap in_numbers (found_goes L s g) in absurd cc
 
 pub payload_shown : (L : Rule) (s : Bor (List ℕ)) → PayloadShown L s
 payload_shown L s at next c f =

@@ -1,19 +1,22 @@
 -- What stands at an offset of a stream, and what that says of the step and of the walk from there. Assumes nothing.
 use Prim.Native.Nat.{ℕ, ◌+◌, ◌-◌, ◌≤◌, ◌<◌}
+use mathlib.Core.Bool.{cond}
 use mathlib.Core.List.{List, [], ◌∷◌, ◌++◌}
 use mathlib.Core.Option.{Option, none, some}
-use mathlib.Core.Path.{◌≡◌, refl, sym, ap, ◌∙◌, subst}
+use mathlib.Core.Path.{◌≡◌, refl, sym, ap, ap₂, ◌∙◌, subst}
 use native.Mathlib.Decide.{dec_le, dec_lt}
-use native.Mathlib.Nat.{zero-add, add-zero, add_assoc}
+use native.Mathlib.Nat.{add_assoc}
 use native.Mathlib.Numerals.{add-one, one-add}
 use native.Mathlib.Omega.{arith}
+use lib.Dec.{ltb}
 use lib.ListN.{length, get_or, take, drop, length-drop, take-append-drop, drop_of_length-le}
 use lib.Seq.{drop-cons, drop-drop, length-take-le, take-append_seam}
 use borrow.Author.Tests.{le-leb, lt-leb, lt-ltb, le-ltb}
-use Rattle.table.specs.Answers.{Answer, given, refused, accepted}
+use Rattle.std.proofs.lemmas.List.{take_rest}
+use Rattle.table.specs.Answers.{Answer, given, refused}
 use Rattle.walk.specs.Ownership.{Ends, nothing_left, no_cid, cut_short}
 use Rattle.walk.specs.Lanes.{more, Leads}
-use Rattle.walk.specs.Room.{StandsAt, room_for}
+use Rattle.walk.specs.Room.{room_for, read_by}
 use Rattle.walk.specs.Step.{Found, ended, command, stopped, first_of, first_move, found_at, Heading, heading, in_numbers, step_at, tally, tally_from}
 use Rattle.walk.specs.Walk.{Rule, Cmd, Ending, end, stop, place_of, Walk, finish, after, walk_from, size}
 use Rattle.walk.proofs.Laws.{ends_at, walk_ends, walk_command}
@@ -25,10 +28,15 @@ tally_after L s at (given (command h next)) = more 1 (tally_from L s next)
 tally_after L s at (given (stopped n o)) = (given (stop n o), 0)
 tally_after L s at (refused n) = (refused n, 0)
 
+-- a step at a CID, in numbers, told from its length
+abbrev pub by_length : (at cid left : ℕ) → Option ℕ → Answer (Found Heading)
+by_length at cid left none = given (stopped 1 at)
+by_length at cid left (some n) = cond (ltb n left) (given (command (heading cid n) (at + 1 + n))) (given (stopped 2 at))
+
 -- an ending is no command
 pub ended_no_command : (e : Ending) {c : Cmd} {next : ℕ} → ◌≡◌ {A = Answer (Found Cmd)} (given (first_of [] e)) (given (command c next)) → ⊥
-ended_no_command (end o) p = let no_way : ◌≡◌ {A = ℕ} 0 1 = cc in omega arith
-ended_no_command (stop n o) p = let no_way : ◌≡◌ {A = ℕ} 0 1 = cc in omega arith
+ended_no_command (end o) p = cc
+ended_no_command (stop n o) p = cc
 
 module _ (L : Rule) (s : List ℕ) where
   -- a command stands at an offset
@@ -130,10 +138,10 @@ module _ (L : Rule) (s : List ℕ) where
     pub step_end : at ≤ length s → length s ≤ at → step_at L s at ≡ given ended
     step_end h g = ap in_numbers (found_end h g)
 
-    pub step_unknown : at < length s → L (get_or s at 0) ≡ none → step_at L s at ≡ given (stopped 1 at)
+    step_unknown : at < length s → L (get_or s at 0) ≡ none → step_at L s at ≡ given (stopped 1 at)
     step_unknown h e = ap in_numbers (found_ends (omega arith) (unknown_here h e))
 
-    pub step_short : (n : ℕ) → at < length s → L (get_or s at 0) ≡ some n → length s - (at + 1) < n → step_at L s at ≡ given (stopped 2 at)
+    step_short : (n : ℕ) → at < length s → L (get_or s at 0) ≡ some n → length s - (at + 1) < n → step_at L s at ≡ given (stopped 2 at)
     step_short n h e g = ap in_numbers (found_ends (omega arith) (short_here n h e g))
 
     pub step_command : (n : ℕ) → at < length s → L (get_or s at 0) ≡ some n → n ≤ length s - (at + 1)
@@ -142,33 +150,61 @@ module _ (L : Rule) (s : List ℕ) where
         ap in_numbers (found_goes (command_here n h e g))
         ∙ ap (λ (k : ℕ). given (command (heading (get_or s at 0) k) (at + 1 + n))) (length-take-le n (drop (at + 1) s) (simp length-drop g))
 
-    -- ---- by whether the payload is all there
-
-    stands_by : at < length s → (l : Option ℕ) → L (get_or s at 0) ≡ l → room_for l (length s - at) ≡ accepted → StandsAt L s at (get_or s at 0)
-    stands_by h none e p = let no_way : ◌≡◌ {A = ℕ} 0 1 = cc in absurd (omega arith)
-    stands_by h (some n) e p = by (dec_lt n (length s - at))
+    -- by the length of the CID that stands there
+    pub step_by : at < length s → step_at L s at ≡ by_length at (get_or s at 0) (length s - at) (L (get_or s at 0))
+    step_by h = by (L (get_or s at 0)) refl
       where
-        by : Dec (n < length s - at) → StandsAt L s at (get_or s at 0)
-        by (yes g) = record { len = n; next = at + 1 + n; step = step_command n h e (omega arith) }
-        by (no g) = let q = simp (le-ltb n (length s - at) (omega arith)) at p in let no_way : ◌≡◌ {A = ℕ} 0 1 = cc in absurd (omega arith)
+        by_room : (n : ℕ) → L (get_or s at 0) ≡ some n → Dec (n < length s - at) → step_at L s at ≡ by_length at (get_or s at 0) (length s - at) (some n)
+        by_room n e (yes g) = step_command n h e (omega arith) ∙ rw (lt-ltb n (length s - at) g) refl
+        by_room n e (no g) =
+            let short : length s - at ≤ n = omega arith in
+            step_short n h e (omega arith) ∙ rw (le-ltb n (length s - at) short) refl
 
-    pub room_stands : at < length s → room_for (L (get_or s at 0)) (length s - at) ≡ accepted → StandsAt L s at (get_or s at 0)
-    room_stands h p = stands_by h (L (get_or s at 0)) refl p
+        by : (l : Option ℕ) → L (get_or s at 0) ≡ l → step_at L s at ≡ by_length at (get_or s at 0) (length s - at) l
+        by none e = step_unknown h e
+        by (some n) e = by_room n e (dec_lt n (length s - at))
 
-    stops_by : (k : ℕ) → at < length s → (l : Option ℕ) → L (get_or s at 0) ≡ l → room_for l (length s - at) ≡ refused k → found_at L s at ≡ given (stopped k at)
+    -- ---- a typed step: what its test and its reading say
+
+    read_in : {c : Cmd} → at < length s → (l : Option ℕ) → L (get_or s at 0) ≡ l → given c ≡ read_by l (get_or s at 0) (drop (at + 1) s)
+        → given (command c (at + size c)) ≡ found_at L s at
+    read_in h none e r = absurd cc
+    read_in {c} h (some n) e r = by (dec_le n (length (drop (at + 1) s)))
+      where
+        by : Dec (n ≤ length (drop (at + 1) s)) → given (command c (at + size c)) ≡ found_at L s at
+        by (yes g) =
+            let q = simp (le-leb n (length (drop (at + 1) s)) g) at r in
+            let c_is : c ≡ record { cid = get_or s at 0; body = take n (drop (at + 1) s) } = cc in
+            let len : length c.body ≡ n = ap (λ (d : Cmd). length d.body) c_is ∙ length-take-le n (drop (at + 1) s) g in
+            let behind : at + size c ≡ at + 1 + n = omega arith in
+            let goes = command_here n h e (omega (arith, simp length-drop at g)) in
+            ap₂ (λ (d : Cmd) (k : ℕ). given (command d k)) c_is behind ∙ sym (found_goes goes)
+        by (no g) =
+            let short : length (drop (at + 1) s) < n = omega arith in
+            let q = simp (lt-leb n (length (drop (at + 1) s)) short) at r in
+            absurd cc
+
+    pub found_read : {c : Cmd} {len : ℕ} → at < length s
+        → given c ≡ read_by (L (get_or s at 0)) (get_or s at 0) (take (length s - (at + 1)) (drop (at + 1) s))
+        → len ≡ length c.body → given (command c (at + 1 + len)) ≡ found_at L s at
+    found_read {c} {len} h r l =
+        let behind : at + 1 + len ≡ at + size c = omega arith in
+        ap (λ (k : ℕ). given (command c k)) behind ∙ read_in h (L (get_or s at 0)) refl (simp take_rest at r)
+
+    stops_by : (k : ℕ) → at < length s → (l : Option ℕ) → L (get_or s at 0) ≡ l → refused k ≡ room_for l (length s - at) → given (stopped k at) ≡ found_at L s at
     stops_by k h none e p =
-        let k_is : 1 ≡ k = cc in found_ends (omega arith) (unknown_here h e) ∙ ap (λ (m : ℕ). given (stopped m at)) k_is
+        let k_is : k ≡ 1 = cc in ap (λ (m : ℕ). given (stopped m at)) k_is ∙ sym (found_ends (omega arith) (unknown_here h e))
     stops_by k h (some n) e p = by (dec_lt n (length s - at))
       where
-        by : Dec (n < length s - at) → found_at L s at ≡ given (stopped k at)
-        by (yes g) = let q = simp (lt-ltb n (length s - at) g) at p in let no_way : ◌≡◌ {A = ℕ} 0 1 = cc in absurd (omega arith)
+        by : Dec (n < length s - at) → given (stopped k at) ≡ found_at L s at
+        by (yes g) = let q = simp (lt-ltb n (length s - at) g) at p in absurd cc
         by (no g) =
             let q = simp (le-ltb n (length s - at) (omega arith)) at p in
-            let k_is : 2 ≡ k = cc in
-            found_ends (omega arith) (short_here n h e (omega arith)) ∙ ap (λ (m : ℕ). given (stopped m at)) k_is
+            let k_is : k ≡ 2 = cc in
+            ap (λ (m : ℕ). given (stopped m at)) k_is ∙ sym (found_ends (omega arith) (short_here n h e (omega arith)))
 
-    pub room_stops : (k : ℕ) → at < length s → room_for (L (get_or s at 0)) (length s - at) ≡ refused k → found_at L s at ≡ given (stopped k at)
-    room_stops k h p = stops_by k h (L (get_or s at 0)) refl p
+    pub found_no_room : (k : ℕ) → at < length s → refused k ≡ room_for (L (get_or s at 0)) (length s - at) → given (stopped k at) ≡ found_at L s at
+    found_no_room k h p = stops_by k h (L (get_or s at 0)) refl p
 
   pub here : (at : ℕ) → Here at
   here at = here_by (dec_lt at (length s)) (dec_le at (length s))
@@ -179,7 +215,7 @@ module _ (L : Rule) (s : List ℕ) where
   found_command {at} {next} {c} p = by (here at)
     where
       by : Here at → Goes at c next
-      by (past h) = let q = found_past h in let no_way : ◌≡◌ {A = ℕ} 0 1 = cc in absurd (omega arith)
+      by (past h) = let q = found_past h in absurd cc
       by (ends e h x) = absurd (ended_no_command e (sym (found_ends h x) ∙ p))
       by (goes d m g) =
           let q = found_goes g in
@@ -189,10 +225,10 @@ module _ (L : Rule) (s : List ℕ) where
 
   pub command_told : (x : Answer (Found Cmd)) {h : Heading} {next : ℕ} → in_numbers x ≡ given (command h next)
       → (c : Cmd) × (x ≡ given (command c next)) × (heading c.cid (length c.body) ≡ h)
-  command_told (given ended) p = let no_way : ◌≡◌ {A = ℕ} 0 1 = cc in absurd (omega arith)
+  command_told (given ended) p = absurd cc
   command_told (given (command c m)) p = (c, cc, cc)
-  command_told (given (stopped n o)) p = let no_way : ◌≡◌ {A = ℕ} 0 1 = cc in absurd (omega arith)
-  command_told (refused n) p = let no_way : ◌≡◌ {A = ℕ} 0 1 = cc in absurd (omega arith)
+  command_told (given (stopped n o)) p = absurd cc
+  command_told (refused n) p = absurd cc
 
   -- what a step's command says of the offsets
   pub step_on : (at : ℕ) {next : ℕ} {h : Heading} → step_at L s at ≡ given (command h next) → (next ≡ at + 1 + h.len) × (next ≤ length s)
@@ -221,12 +257,6 @@ module _ (L : Rule) (s : List ℕ) where
 
   -- ---- the walk by steps
 
-  pub leads_nowhere : (from : ℕ) → Leads L s from 0 from
-  leads_nowhere from = record {
-    same = ap (λ (n : ℕ). ((tally_from L s from).0, n)) (sym (zero-add (tally_from L s from).1));
-    apart = omega arith;
-  }
-
   pub leads_behind : (at : ℕ) {h : Heading} {next : ℕ} → step_at L s at ≡ given (command h next) → Leads L s at 1 next
   leads_behind at e = let m = step_on at e in record { same = tally_step at ∙ ap (tally_after L s at) e; apart = omega arith }
 
@@ -239,11 +269,6 @@ module _ (L : Rule) (s : List ℕ) where
   -- where one part comes to the place at which another begins
   pub leads_over : {from m at place n to : ℕ} → Leads L s from m at → at ≡ place → Leads L s place n to → Leads L s from (m + n) to
   leads_over {n = n} {to = to} p e q = leads_on p (subst (λ (k : ℕ). Leads L s k n to) (sym e) q)
-
-  pub leads_to_end : {from count at : ℕ} {x : Answer (Found Heading)} (a : Answer Ending) → Leads L s from count at
-      → step_at L s at ≡ x → tally_after L s at x ≡ (a, 0) → (a, count) ≡ tally_from L s from
-  leads_to_end {count = count} {at = at} a l e f =
-      sym (l.same ∙ ap (more count) (tally_step at ∙ ap (tally_after L s at) e ∙ f) ∙ ap (λ (n : ℕ). (a, n)) (add-zero count))
 
   -- where the front of a stream leads to, the rest of its walk begins
   pub leads_from_start : {n at m : ℕ} {a : Answer Ending} → Leads L s 0 n at → (a, m) ≡ tally_from L s at → (a, n + m) ≡ tally (walk_from L 0 s)

@@ -8,14 +8,13 @@ use Rattle.table.proofs.Told.{numbered, numbered_number}
 use Rattle.payloads.specs.declared.uplink.UplinkMacCommand.{UplinkMacCommand}
 use Rattle.payloads.specs.declared.downlink.DownlinkMacCommand.{DownlinkMacCommand}
 use Rattle.payloads.proofs.Told.{uplink_of, uplink-back, downlink_of, downlink-back}
-use Rattle.walk.specs.declared.command.UplinkStep.{UplinkStep}
-use Rattle.walk.specs.declared.command.DownlinkStep.{DownlinkStep}
+use Rattle.walk.specs.declared.command.CommandStep.{CommandStep}
 use Rattle.walk.specs.declared.step.Step.{Step}
 use Rattle.walk.specs.declared.whole.Outcome.{Outcome}
 use Rattle.walk.specs.declared.whole.WalkEnd.{WalkEnd}
 use Rattle.walk.specs.Command.{uplink_cmd, downlink_cmd}
-use Rattle.walk.specs.Step.{Found, ended, command, stopped, retold}
-use Rattle.walk.specs.Told.{told_step, uplink_found, told_uplink_step, downlink_found, told_downlink_step, told_outcome, told_walk}
+use Rattle.walk.specs.Step.{Found, ended, command, stopped}
+use Rattle.walk.specs.Told.{told_step, told_command_step, told_uplink_step, told_downlink_step, told_outcome, told_walk}
 use Rattle.walk.specs.Walk.{Cmd, Ending, end, stop}
 
 -- what a step was made of, by its four forms
@@ -39,40 +38,29 @@ step_tells =
       | Step.Refused r ↦ ap Step.Refused (numbered_number r)
     ])
 
--- a finding is known from what is told of it, if a command is
-retold_back : {A B : Type 0} (f : A → B) (g : B → A) → ((x : A) → g (f x) ≡ x) → (a : Answer (Found A)) → retold g (retold f a) ≡ a
-retold_back f g back (given ended) = refl
-retold_back f g back (given (command c next)) = ap (λ c. given (command c next)) (back c)
-retold_back f g back (given (stopped n at)) = refl
-retold_back f g back (refused n) = refl
+-- a typed step is known from what is told of it, if a command is
+pub command_step_tells : {C : Type 0} (f : C → Cmd) (g : Cmd → C) → ((c : C) → g (f c) ≡ c) → {x y : CommandStep C} → told_command_step f x ≡ told_command_step f y → x ≡ y
+command_step_tells f g back p =
+    made_tells (told_command_step f) CommandStep.End (λ c next. CommandStep.Command (g c) next) CommandStep.Stop CommandStep.Refused
+    (elim [
+      | CommandStep.End ↦ refl
+      | CommandStep.Command c next ↦ ap (λ c. CommandStep.Command c next) (back c)
+      | CommandStep.Stop r at ↦ ap (λ r. CommandStep.Stop r at) (numbered_number r)
+      | CommandStep.Refused r ↦ ap CommandStep.Refused (numbered_number r)
+    ])
+    p
 
 abbrev uplink_back : Cmd → UplinkMacCommand
 uplink_back c = uplink_of (c.cid, c.body)
 
-pub uplink_step_tells : {x y : UplinkStep} → told_uplink_step x ≡ told_uplink_step y → x ≡ y
-uplink_step_tells p =
-    made_tells uplink_found UplinkStep.End UplinkStep.Command UplinkStep.Stop UplinkStep.Refused
-    (elim [
-      | UplinkStep.End ↦ refl
-      | UplinkStep.Command c next ↦ refl
-      | UplinkStep.Stop r at ↦ ap (λ r. UplinkStep.Stop r at) (numbered_number r)
-      | UplinkStep.Refused r ↦ ap UplinkStep.Refused (numbered_number r)
-    ])
-    (by_inverse (retold uplink_cmd) (retold uplink_back) (retold_back uplink_cmd uplink_back uplink-back) p)
+pub uplink_step_tells : {x y : CommandStep UplinkMacCommand} → told_uplink_step x ≡ told_uplink_step y → x ≡ y
+uplink_step_tells p = command_step_tells uplink_cmd uplink_back uplink-back p
 
 abbrev downlink_back : Cmd → DownlinkMacCommand
 downlink_back c = downlink_of (c.cid, c.body)
 
-pub downlink_step_tells : {x y : DownlinkStep} → told_downlink_step x ≡ told_downlink_step y → x ≡ y
-downlink_step_tells p =
-    made_tells downlink_found DownlinkStep.End DownlinkStep.Command DownlinkStep.Stop DownlinkStep.Refused
-    (elim [
-      | DownlinkStep.End ↦ refl
-      | DownlinkStep.Command c next ↦ refl
-      | DownlinkStep.Stop r at ↦ ap (λ r. DownlinkStep.Stop r at) (numbered_number r)
-      | DownlinkStep.Refused r ↦ ap DownlinkStep.Refused (numbered_number r)
-    ])
-    (by_inverse (retold downlink_cmd) (retold downlink_back) (retold_back downlink_cmd downlink_back downlink-back) p)
+pub downlink_step_tells : {x y : CommandStep DownlinkMacCommand} → told_downlink_step x ≡ told_downlink_step y → x ≡ y
+downlink_step_tells p = command_step_tells downlink_cmd downlink_back downlink-back p
 
 outcome_told : Answer Ending → Outcome
 outcome_told (given (end at)) = Outcome.End at

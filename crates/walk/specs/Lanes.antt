@@ -1,7 +1,6 @@
 -- Not for the auditor: only private functions cite this. What a lane of src/lanes.rt is: a part of a walk.
-use Rattle.std.specs.Prelude.{ℕ, ◌+◌, ◌≤◌, List, ◌≡◌, length}
+use Rattle.std.specs.Prelude.{ℕ, ◌+◌, ◌≤◌, List, Option, IfSome, ◌≡◌, length}
 use Rattle.table.specs.Answers.{Answer}
-use Rattle.walk.specs.declared.lanes.Onward.{Onward}
 use Rattle.walk.specs.Step.{tally_from}
 use Rattle.walk.specs.Walk.{Rule, Ending}
 
@@ -14,12 +13,6 @@ pub record Leads (L : Rule) (s : List ℕ) (from n at : ℕ) : Type 0 where
   pub same : tally_from L s from ≡ more n (tally_from L s at)
   pub apart : from + n ≤ at
 
--- an offset behind commands, where there is one, is no offset past the stream
-abbrev pub Within : List ℕ → Onward → Type 0
-Within s (Onward.To next) = next ≤ length s
-Within s Onward.Nowhere = Unit
-
--- the walk from an offset comes there by one command
-abbrev pub Comes : Rule → List ℕ → ℕ → Onward → Type 0
-Comes L s at (Onward.To next) = Leads L s at 1 next
-Comes L s at Onward.Nowhere = Unit
+-- the walk from an offset comes to this next one by one command, where there is a next one
+abbrev pub Comes : Rule → List ℕ → ℕ → Option ℕ → Type 0
+Comes L s at o = IfSome o (λ (next : ℕ). Leads L s at 1 next × (next ≤ length s))

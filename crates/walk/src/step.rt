@@ -5,10 +5,10 @@ ghost use Rattle.walk.specs.Step.{step_at};
 ghost use Rattle.walk.specs.Stepping.{after_steps};
 ghost use Rattle.walk.specs.Told.{told_step};
 
-use table::{Length, Refusal, Rules};
+use table::{Refusal, Rules};
 
-// What stands at an offset of a stream.
-#[derive(Clone, Copy)]
+// What stands at an offset of a stream. No CommandStep: a command has two numbers here, whose names its callers match.
+#[derive(Clone, Copy, PartialEq, Eq)]
 pub enum Step {
     // The stream's end.
     End,
@@ -20,6 +20,7 @@ pub enum Step {
     Refused(Refusal),
 }
 
+#[tactic(auto, using(crate::proofs::Steps::step_past, crate::proofs::Steps::step_end, crate::proofs::Steps::step_by))]
 pub fn step_at(rules: Rules, stream: &[u8], at: usize) -> Step
     ensures { told_step result ≡ step_at (length_of rules) stream.now at }
 {
@@ -30,20 +31,18 @@ pub fn step_at(rules: Rules, stream: &[u8], at: usize) -> Step
         return Step::End;
     }
     let cid = stream[at];
-    let body = at + 1;
-    let length = rules.payload_len(cid);
-    match length {
-        Length::Unknown => Step::Stop {
+    match rules.payload_len(cid) {
+        None => Step::Stop {
             reason: Refusal::UnknownMacCommand,
             at,
         },
-        Length::Known(len) => {
+        Some(len) => {
             // Of the bytes left, one is the CID.
             if len < stream.len() - at {
                 Step::Command {
                     cid,
                     len,
-                    next: body + len,
+                    next: at + 1 + len,
                 }
             } else {
                 Step::Stop {
@@ -57,46 +56,27 @@ pub fn step_at(rules: Rules, stream: &[u8], at: usize) -> Step
 
 // The payload of the command at an offset: the part of the stream that begins behind its CID. Where there is no command, the front of the
 // stream, with no bytes.
+#[tactic(auto, using(crate::proofs::Steps::step_on, crate::proofs::Parts::part_is))]
 pub fn payload_at(rules: Rules, stream: &[u8], at: usize) -> &[u8]
     ensures { shown result ≡ payload_part stream.entry at (step_at (length_of rules) stream.now at) }
 {
-    let found = step_at(rules, stream, at);
-    match found {
-        Step::Command {
-            cid: _,
-            len: _,
-            next,
-        } => {
-            let body = at + 1;
-            &stream[body..next]
-        }
-        Step::End => &stream[..0],
-        Step::Stop { reason: _, at: _ } => &stream[..0],
-        Step::Refused(_) => &stream[..0],
+    match step_at(rules, stream, at) {
+        Step::Command { next, .. } => &stream[at + 1..next],
+        _ => &stream[..0],
     }
 }
 
 // The offset after n steps, the first of them at an offset. Where a step finds no command, those behind it stay there.
+#[tactic(auto, using(crate::proofs::Stepping::none_made, crate::proofs::Stepping::step_made))]
 pub fn after_steps(rules: Rules, stream: &[u8], from: usize, n: usize) -> usize
     ensures { result ≡ after_steps (length_of rules) stream.now from n }
 {
     let mut at = from;
-    let mut made: usize = 0;
-    while made < n {
-        let found = step_at(rules, stream, at);
-        match found {
-            Step::Command {
-                cid: _,
-                len: _,
-                next,
-            } => {
-                at = next;
-                made += 1;
-            }
-            Step::End => break,
-            Step::Stop { reason: _, at: _ } => break,
-            Step::Refused(_) => break,
-        }
+    for _made in 0..n {
+        let Step::Command { next, .. } = step_at(rules, stream, at) else {
+            break;
+        };
+        at = next;
     }
     at
 }

@@ -9,7 +9,7 @@ use crate::step::{Step, step_at};
 use table::{Refusal, Rules};
 
 // How a walk ends, and at which offset.
-#[derive(Clone, Copy)]
+#[derive(Clone, Copy, PartialEq, Eq)]
 pub enum Outcome {
     End(usize),
     Stop { reason: Refusal, at: usize },
@@ -17,44 +17,32 @@ pub enum Outcome {
     Refused(Refusal),
 }
 
-#[derive(Clone, Copy)]
+#[derive(Clone, Copy, PartialEq, Eq)]
 pub struct WalkEnd {
     pub outcome: Outcome,
     // The number of commands handed out.
     pub count: usize,
 }
 
-// The walk from an offset on, step by step.
+// The walk from an offset on, step by step. No iterator goes over the steps: a proof speaks of the offset, a variable here.
+#[tactic(auto, using(crate::proofs::Steps::step_on, crate::proofs::Steps::tally_step))]
 pub fn walk_from(rules: Rules, stream: &[u8], from: usize) -> WalkEnd
     ensures { told_walk result ≡ tally_from (length_of rules) stream.now from }
 {
     let mut at = from;
     let mut count: usize = 0;
-    loop {
-        let found = step_at(rules, stream, at);
-        match found {
-            Step::Command {
-                cid: _,
-                len: _,
-                next,
-            } => {
+    let outcome = loop {
+        match step_at(rules, stream, at) {
+            Step::Command { next, .. } => {
                 at = next;
                 count += 1;
             }
-            Step::End => break WalkEnd {
-                outcome: Outcome::End(at),
-                count,
-            },
-            Step::Stop { reason, at: place } => break WalkEnd {
-                outcome: Outcome::Stop { reason, at: place },
-                count,
-            },
-            Step::Refused(reason) => break WalkEnd {
-                outcome: Outcome::Refused(reason),
-                count,
-            },
+            Step::End => break Outcome::End(at),
+            Step::Stop { reason, at } => break Outcome::Stop { reason, at },
+            Step::Refused(reason) => break Outcome::Refused(reason),
         }
-    }
+    };
+    WalkEnd { outcome, count }
 }
 
 // The whole walk. A long stream's front is walked in lanes.
@@ -63,7 +51,6 @@ pub fn walk(rules: Rules, stream: &[u8]) -> WalkEnd
 {
     let front = in_lanes(rules, stream);
     let rest = walk_from(rules, stream, front.at);
-    let outcome = rest.outcome;
     let count = front.count + rest.count;
-    WalkEnd { outcome, count }
+    WalkEnd { count, ..rest }
 }

@@ -15,11 +15,11 @@ told : (c : In-Command)
     ≡ given (command (heading c.in-Command.cid c.in-Command.len) c.in-Command.next)
 told c = sym c.step_at-step.ensures ∙ ap told_step c.in-Command.is
 
-pub from_frame-record-requires : goal.from_frame-record-requires
-from_frame-record-requires c = let m = step_on _ _ _ (told (goal.at.from_frame-record-requires c).In-Command) in omega arith
+pub from_frame-requires : goal.from_frame-requires
+from_frame-requires c = let m = step_on _ _ _ (told (goal.at.from_frame-requires c).In-Command) in omega arith
 
 pub returns-in-Command : goal.returns-in-Command
 returns-in-Command c =
     let a = c.args in
     ap₂ (λ x r. (x, r)) (sym (told (goal.at.returns-in-Command c).In-Command))
-    (c.from_frame-record.ensures ∙ command_record (length_of a.rules) a.stream.now a.frame a.at (told (goal.at.returns-in-Command c).In-Command))
+    (c.from_frame.ensures ∙ command_record (length_of a.rules) a.stream.now a.frame a.at (told (goal.at.returns-in-Command c).In-Command))

@@ -1,11 +1,7 @@
--- What the loop keeps true.
-use Prim.Native.Nat.{◌-◌, ◌≤◌}
+-- What the loop keeps true: entries up to here stand at the front, and `at` is the offset of the next.
 use Rattle.table.specs.Table.{length_of}
 use Rattle.jumps.proofs.Making.{Written}
 use Rattle.jumps.proofs.entries.write_entries.Given as goal
 
-abbrev pub invariant-loop-k : goal.invariant-loop-k
-invariant-loop-k l = (l.k ≤ l.total) × Written (length_of l.rules) l.stream l.initial.numbers l.k l.at l.numbers
-
-abbrev pub decreases-loop-k : goal.decreases-loop-k
-decreases-loop-k l = l.total - l.k
+abbrev pub invariant-loop-number : goal.invariant-loop-number
+invariant-loop-number l = Written (length_of l.rules) l.stream l.initial.numbers l.number-index l.at l.numbers

@@ -1,6 +1,5 @@
 -- `closed_at` meets its contract. Assumes nothing.
 use mathlib.Core.Path.{sym}
-use borrow.Author.Rules.{rules}
 use native.Mathlib.Omega.{arith}
 use Rattle.ledger.proofs.TracingSteps.{closed_end, closed_other, closed_newline}
 use Rattle.ledger.proofs.lines.closed_at.Goals as goal

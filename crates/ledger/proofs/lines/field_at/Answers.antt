@@ -26,18 +26,18 @@ returns-then-text-at-clause-stream_after c = sym (field_end c.args.text.now c.ar
 
 pub returns-then-first-eq45-clause-stream_after : goal.returns-then-first-eq45-clause-stream_after
 returns-then-first-eq45-clause-stream_after c = let r = c.closed_at in
-    let few = r.ensures.len_le_len in field_dash c.args.text.now c.args.at c.if-text-at.false c.if-first-eq45.true r.result c.args.stream.now r.ensures.result_value
+    field_dash c.args.text.now c.args.at c.if-text-at.false c.if-first-eq45.true r.result c.args.stream.now r.ensures.result_value
 
 pub returns-then-n-eq0-clause-stream_after : goal.returns-then-n-eq0-clause-stream_after
 returns-then-n-eq0-clause-stream_after c =
     sym (field_nothing c.args.text.now c.args.at c.if-text-at.false c.if-first-eq45.false (sym c.pairs-n.ensures.value ∙ c.if-n-eq0.true))
 
 pub closed_at-requires-2 : goal.closed_at-requires-2
-closed_at-requires-2 c = let l = fit (goal.at.closed_at-requires-2 c).After-pairs-n in let h = c.requires.at_in_bounds in search rules
+closed_at-requires-2 c = let l = fit (goal.at.closed_at-requires-2 c).After-pairs-n in let h = c.requires in search rules
 
 pub returns-clause-stream_after : goal.returns-clause-stream_after
 returns-clause-stream_after c = let a = c.args in
     let r = c.closed_at-2 in
     let m = few (goal.at.returns-clause-stream_after c).After-pairs-n in
-    let n = r.ensures.len_le_len in field_bytes a.text.now a.at c.if-text-at.false c.if-first-eq45.false c.pairs-n.new.stream
+    field_bytes a.text.now a.at c.if-text-at.false c.if-first-eq45.false c.pairs-n.new.stream
     c.pairs-n.ensures.value c.pairs-n.ensures.stream_after (λ e. omega arith) r.result r.ensures.result_value

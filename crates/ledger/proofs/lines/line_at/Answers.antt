@@ -1,48 +1,56 @@
 -- `line_at` meets its contract. Assumes nothing.
 use Prim.Native.Nat.{◌+◌, ◌≤◌}
-use mathlib.Core.Bool.{Bool, true, cond}
-use mathlib.Core.Option.{none, some}
-use mathlib.Core.Path.{◌≡◌, sym, ap, ◌∙◌}
-use borrow.Author.Rules.{rules}
+use mathlib.Core.Path.{sym}
 use native.Mathlib.Omega.{arith}
-use lib.ListN.{length}
-use Rattle.ledger.proofs.TracingFront.{number_fits, line_no_number, line_large, line_no_heading, line_told}
-use Rattle.ledger.proofs.TracingSteps.{heading_room}
+use lib.ListN.{length, drop}
+use Rattle.ledger.specs.Lines.{number_in}
+use Rattle.ledger.proofs.TracingFront.{number_fits, line_no_number, line_large, line_no_heading, line_no_field, line_with_field}
+use Rattle.ledger.proofs.TracingSteps.{Numbered, is_numbered, not_numbered, heading_room}
 use Rattle.ledger.proofs.lines.line_at.Goals as goal
-use Rattle.ledger.proofs.lines.line_at.Goals.{After-heading_at-sent}
+use Rattle.ledger.proofs.lines.line_at.Goals.{In_ok-number, In_ok-direction}
 
--- the heading is behind the number
-module _ (c : After-heading_at-sent) where
-  room : c.heading_at-sent.result.ok ≡ true → c.number_at-found.result.next + 3 ≤ length c.args.text.now
-  room e =
-      heading_room c.args.text.now c.number_at-found.result.next
-      (sym c.heading_at-sent.ensures ∙ ap (λ (b : Bool). cond b (some c.heading_at-sent.result.direction) none) e)
+pub returns-in_err-number-clause-stream_after : goal.returns-in_err-number-clause-stream_after
+returns-in_err-number-clause-stream_after c =
+    let a = c.args in
+    rw c.from_residual.ensures (sym (line_no_number a.text.now a.at (not_numbered a.at (number_in (drop a.at a.text.now)) c.in_err-number.ensures)))
 
-pub returns-then-behind-at-clause-stream_after : goal.returns-then-behind-at-clause-stream_after
-returns-then-behind-at-clause-stream_after c = sym (line_no_number c.args.text.now c.args.at c.number_at-found.ensures.value_value c.number_at-found.ensures.next_value c.if-behind-at.true)
-
-pub heading_at-sent-requires : goal.heading_at-sent-requires
-heading_at-sent-requires c =
-    let h = c.requires.at_in_bounds in
-    omega (arith, c.number_at-found.ensures.next_value, number_fits c.args.text.now c.args.at (omega arith))
-
-pub overflow_add-field : goal.overflow_add-field
-overflow_add-field c = let r = room (goal.at.overflow_add-field c).After-heading_at-sent c.if-ok.true in search rules
-
-pub field_at-read-requires-clause-at_in_bounds : goal.field_at-read-requires-clause-at_in_bounds
-field_at-read-requires-clause-at_in_bounds c = let r = room (goal.at.field_at-read-requires-clause-at_in_bounds c).After-heading_at-sent c.if-ok.true in omega arith
-
-pub returns-then-ok-clause-stream_after : goal.returns-then-ok-clause-stream_after
-returns-then-ok-clause-stream_after c = let a = c.args in
-    let f = c.field_at-read in line_told a.text.now a.at c.number_at-found.ensures.value_value c.number_at-found.ensures.next_value c.if-behind-at.false (omega arith)
-    (sym c.heading_at-sent.ensures ∙ ap (λ (b : Bool). cond b (some c.heading_at-sent.result.direction) none) c.if-ok.true)
-    f.result f.new.stream f.ensures.stream_after
-
-pub returns-else-ok-clause-stream_after : goal.returns-else-ok-clause-stream_after
-returns-else-ok-clause-stream_after c = let a = c.args in sym (line_no_heading a.text.now a.at c.number_at-found.ensures.value_value c.number_at-found.ensures.next_value
-    (sym c.heading_at-sent.ensures ∙ ap (λ (b : Bool). cond b (some c.heading_at-sent.result.direction) none) c.if-ok.false))
+-- the number is there
+module _ (c : In_ok-number) where
+  abbrev found : Numbered c.in_ok-number.number.value c.in_ok-number.number.next c.args.at (number_in (drop c.args.at c.args.text.now))
+  found = is_numbered c.in_ok-number.number.value c.in_ok-number.number.next c.args.at (number_in (drop c.args.at c.args.text.now)) c.in_ok-number.ensures
 
 pub returns-then-value-gt4294967295-clause-stream_after : goal.returns-then-value-gt4294967295-clause-stream_after
 returns-then-value-gt4294967295-clause-stream_after c =
-    let n = c.number_at-found.ensures in
-    sym (line_large c.args.text.now c.args.at n.value_value n.next_value c.if-value-gt4294967295.true)
+    let n = found (goal.at.returns-then-value-gt4294967295-clause-stream_after c).In_ok-number in
+    sym (line_large c.args.text.now c.args.at n.means n.there c.if-value-gt4294967295.true)
+
+pub heading_at-requires : goal.heading_at-requires
+heading_at-requires c =
+    let h = c.requires in
+    let n = found (goal.at.heading_at-requires c).In_ok-number in
+    omega (arith, n.there, number_fits c.args.text.now c.args.at (omega arith))
+
+pub returns-in_err-direction-clause-stream_after : goal.returns-in_err-direction-clause-stream_after
+returns-in_err-direction-clause-stream_after c =
+    let n = found (goal.at.returns-in_err-direction-clause-stream_after c).In_ok-number in
+    rw c.from_residual-in_err-direction.ensures (sym (line_no_heading c.args.text.now c.args.at n.means n.there (sym c.in_err-direction.ensures)))
+
+-- and the heading behind it
+module _ (c : In_ok-direction) where
+  room : c.in_ok-number.number.next + 3 ≤ length c.args.text.now
+  room = heading_room c.args.text.now c.in_ok-number.number.next (sym c.in_ok-direction.ensures)
+
+pub field_at-requires : goal.field_at-requires
+field_at-requires c = room (goal.at.field_at-requires c).In_ok-direction
+
+pub returns-in_err-field-clause-stream_after : goal.returns-in_err-field-clause-stream_after
+returns-in_err-field-clause-stream_after c =
+    let n = found (goal.at.returns-in_err-field-clause-stream_after c).In_ok-number in
+    rw c.from_residual-in_err-field.ensures
+    (line_no_field c.args.text.now c.args.at n.means n.there n.some c.if-value-gt4294967295.false (sym c.in_ok-direction.ensures) c.in_err-field.ensures.stream_after)
+
+pub returns-clause-stream_after : goal.returns-clause-stream_after
+returns-clause-stream_after c =
+    let n = found (goal.at.returns-clause-stream_after c).In_ok-number in
+    line_with_field c.args.text.now c.args.at n.means n.there n.some c.if-value-gt4294967295.false (sym c.in_ok-direction.ensures)
+    c.in_ok-field.field c.field_at.new.stream c.in_ok-field.ensures.stream_after

@@ -1,8 +1,9 @@
 -- Each turn is one step of the iterator. More calls than the stream has bytes change nothing.
-use Prim.Native.Nat.{ℕ, ◌+◌}
+use Prim.Native.Nat.{ℕ, min, ◌+◌}
 use mathlib.Core.List.{List}
 use mathlib.Core.Path.{◌≡◌, ap, ◌∙◌}
 use native.Mathlib.Omega.{arith}
+use lib.ListN.{length}
 use Rattle.table.specs.Table.{length_of}
 use Rattle.table.specs.declared.rules.Rules.{Rules}
 use Rattle.walk.specs.Step.{step_at}
@@ -22,36 +23,34 @@ answered : (r r' : Rules) (s s' : List ℕ) (k i : ℕ) → r ≡ r' → s ≡ s
     → step_at (length_of r) s k ≡ nth_answer (length_of r') s' i
 answered r r' s s' k i p q e = rw (p, q, e)
 
-pub loop-i-init : goal.loop-i-init
-loop-i-init c =
+pub loop-call-init : goal.loop-call-init
+loop-call-init c =
     let e = c.new-iterator.ensures in
     record {
-      passed = omega arith;
       same_stream = ap (λ (it : MacCommandIterator). it.«data».now) e;
       same_rules = ap (λ (it : MacCommandIterator). it.rules) e;
       stands = ap (λ (it : MacCommandIterator). it.index) e ∙ none_made (length_of c.args.rules) c.args.stream.now 0;
     }
 
-pub loop-i-preserved : goal.loop-i-preserved
-loop-i-preserved c =
-    let it = c.loop-i.iterator' in
-    let v = c.loop-i.invariant in
+pub loop-call-preserved : goal.loop-call-preserved
+loop-call-preserved c =
+    let it = c.loop-call.iterator' in
+    let v = c.loop-call.invariant in
     let e = ap (λ x. x.1) c.next.ensures in
     record {
-      passed = omega arith;
       same_stream = ap (λ (i : MacCommandIterator). i.«data».now) e ∙ v.same_stream;
       same_rules = ap (λ (i : MacCommandIterator). i.rules) e ∙ v.same_rules;
-      stands = ap (λ (i : MacCommandIterator). i.index) e ∙ stepped it.rules c.args.rules it.«data».now c.args.stream.now it.index c.loop-i.i v.same_rules v.same_stream v.stands;
+      stands = ap (λ (i : MacCommandIterator). i.index) e ∙ stepped it.rules c.args.rules it.«data».now c.args.stream.now it.index c.loop-call._call v.same_rules v.same_stream v.stands;
     }
 
 pub returns : goal.returns
 returns c =
-    let it = c.loop-i.iterator' in
-    let v = c.loop-i.invariant in
+    let it = c.loop-call.iterator' in
+    let v = c.loop-call.invariant in
     let L = length_of c.args.rules in
     let s = c.args.stream.now in
-    let all : c.loop-i.i ≡ c.lesser-before.result = omega arith in
+    let all : c.loop-call._call ≡ min c.args.n (length s) = omega arith in
     ap (λ x. x.0) c.next-2.ensures
-    ∙ answered it.rules c.args.rules it.«data».now s it.index c.loop-i.i v.same_rules v.same_stream v.stands
-    ∙ ap (nth_answer L s) (all ∙ c.lesser-before.ensures)
+    ∙ answered it.rules c.args.rules it.«data».now s it.index c.loop-call._call v.same_rules v.same_stream v.stands
+    ∙ ap (nth_answer L s) all
     ∙ no_more_calls L s c.args.n

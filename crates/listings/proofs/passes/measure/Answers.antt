@@ -8,8 +8,8 @@ use Rattle.walk.specs.Told.{told_step}
 use Rattle.walk.specs.declared.step.Step.{Step}
 use Rattle.walk.proofs.Steps.{step_on}
 use Rattle.listings.specs.Passes.{step_line}
-use Rattle.listings.proofs.Lining.{frame_long, stamp_few}
-use Rattle.listings.proofs.Walking.{summed_over, summed_last, summed_next, step_text, rest_after}
+use Rattle.listings.proofs.Lining.{frame_long}
+use Rattle.listings.proofs.Walking.{summed_over, summed_last, summed_next, step_text, rest_none}
 use Rattle.listings.proofs.passes.measure.Goals as goal
 use Rattle.listings.proofs.passes.measure.Goals.{After-line_len}
 
@@ -19,12 +19,6 @@ line_long : (c : After-line_len) → c.stamp_len-stamp.result + c.line_len.resul
 line_long c =
     ap₂ (λ (a b : ℕ). a + b) c.stamp_len-stamp.ensures c.line_len.ensures.value
     ∙ sym (frame_long c.args.frame (step_line c.args.rules c.args.stream.now c.loop-sum.at (told_step c.step_at-found.result)))
-
-pub overflow_add-len : goal.overflow_add-len
-overflow_add-len c =
-    let e = c.stamp_len-stamp.ensures in
-    let l = c.line_len.ensures.upper_bound in
-    omega (arith, stamp_few c.args.frame (let f = c.ranges.frame in omega arith))
 
 pub loop-sum-smaller : goal.loop-sum-smaller
 loop-sum-smaller c =
@@ -42,22 +36,9 @@ loop-sum-preserved c =
 
 pub returns-then-room-sum : goal.returns-then-room-sum
 returns-then-room-sum c =
-    summed_over c.args.rules c.args.frame c.args.stream.now c.args.room c.loop-sum.invariant c.step_at-found.ensures (line_long (goal.at.returns-then-room-sum c).After-line_len) c.if-room-sum.true
+    summed_over _ _ _ _ c.loop-sum.invariant c.step_at-found.ensures (line_long (goal.at.returns-then-room-sum c).After-line_len) c.if-room-sum.true
 
-pub returns-in-End : goal.returns-in-End
-returns-in-End c =
-    summed_last c.args.rules c.args.frame c.args.stream.now c.args.room c.loop-sum.invariant c.step_at-found.ensures (line_long (goal.at.returns-in-End c).After-line_len)
-    (ap (λ (f : Step). rest_after c.args.rules c.args.frame c.args.stream.now (told_step f)) c.in-End.is)
-    c.if-room-sum.false
-
-pub returns-in-Stop : goal.returns-in-Stop
-returns-in-Stop c =
-    summed_last c.args.rules c.args.frame c.args.stream.now c.args.room c.loop-sum.invariant c.step_at-found.ensures (line_long (goal.at.returns-in-Stop c).After-line_len)
-    (ap (λ (f : Step). rest_after c.args.rules c.args.frame c.args.stream.now (told_step f)) c.in-Stop.is)
-    c.if-room-sum.false
-
-pub returns-in-Refused : goal.returns-in-Refused
-returns-in-Refused c =
-    summed_last c.args.rules c.args.frame c.args.stream.now c.args.room c.loop-sum.invariant c.step_at-found.ensures (line_long (goal.at.returns-in-Refused c).After-line_len)
-    (ap (λ (f : Step). rest_after c.args.rules c.args.frame c.args.stream.now (told_step f)) c.in-Refused.is)
-    c.if-room-sum.false
+pub returns-in_default : goal.returns-in_default
+returns-in_default c =
+    summed_last _ _ _ _ c.loop-sum.invariant c.step_at-found.ensures (line_long (goal.at.returns-in_default c).After-line_len)
+    (rest_none _ _ _ _ c.in_default.not-Command) c.if-room-sum.false

@@ -6,11 +6,11 @@ use Rattle.bits.specs.Memory.{written_at}
 use Rattle.walk.specs.Told.{told_step}
 use Rattle.walk.specs.declared.step.Step.{Step}
 use Rattle.walk.proofs.Steps.{step_on}
-use Rattle.listings.proofs.Walking.{listed_room, listed_last, listed_next, step_text, rest_after}
+use Rattle.listings.proofs.Walking.{listed_room, listed_last, listed_next, step_text, rest_none}
 use Rattle.listings.proofs.passes.write_lines.Goals as goal
 
 pub put_line-to-requires-clause-found_in_bounds : goal.put_line-to-requires-clause-found_in_bounds
-put_line-to-requires-clause-found_in_bounds c = listed_room c.args.rules c.args.frame c.args.stream.now c.args.out.now c.loop-next.invariant c.step_at-found.ensures
+put_line-to-requires-clause-found_in_bounds c = listed_room _ _ _ _ c.loop-next.invariant c.step_at-found.ensures
 
 pub loop-next-smaller : goal.loop-next-smaller
 loop-next-smaller c =
@@ -21,23 +21,8 @@ pub loop-next-preserved : goal.loop-next-preserved
 loop-next-preserved c =
     let l = c.loop-next in
     let e = sym (ap told_step c.in-Command.is) ∙ c.step_at-found.ensures in
-    listed_next c.args.rules c.args.frame c.args.stream.now c.args.out.now l.invariant e (step_on _ _ _ (sym e)).1
+    listed_next _ _ _ _ l.invariant e (step_on _ _ _ (sym e)).1
     (c.put_line-to.ensures ∙ ap (λ (f : Step). written_at l.out l.to (step_text c.args.rules c.args.frame c.args.stream.now l.at (told_step f))) c.in-Command.is)
 
-pub returns-in-End : goal.returns-in-End
-returns-in-End c =
-    listed_last c.args.rules c.args.frame c.args.stream.now c.args.out.now c.loop-next.invariant c.step_at-found.ensures
-    (ap (λ (f : Step). rest_after c.args.rules c.args.frame c.args.stream.now (told_step f)) c.in-End.is)
-    c.put_line-to.ensures
-
-pub returns-in-Stop : goal.returns-in-Stop
-returns-in-Stop c =
-    listed_last c.args.rules c.args.frame c.args.stream.now c.args.out.now c.loop-next.invariant c.step_at-found.ensures
-    (ap (λ (f : Step). rest_after c.args.rules c.args.frame c.args.stream.now (told_step f)) c.in-Stop.is)
-    c.put_line-to.ensures
-
-pub returns-in-Refused : goal.returns-in-Refused
-returns-in-Refused c =
-    listed_last c.args.rules c.args.frame c.args.stream.now c.args.out.now c.loop-next.invariant c.step_at-found.ensures
-    (ap (λ (f : Step). rest_after c.args.rules c.args.frame c.args.stream.now (told_step f)) c.in-Refused.is)
-    c.put_line-to.ensures
+pub returns : goal.returns
+returns c = listed_last _ _ _ _ c.loop-next.invariant c.step_at-found.ensures (rest_none _ _ _ _ c.in_default.not-Command) c.put_line-to.ensures

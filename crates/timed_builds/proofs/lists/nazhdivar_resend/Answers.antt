@@ -6,9 +6,9 @@ use native.Mathlib.Omega.{arith}
 use Rattle.timed_builds.proofs.lists.nazhdivar_resend.Goals as goal
 
 pub loop-command-smaller : goal.loop-command-smaller
-loop-command-smaller c = let g = found_command _ _ (sym c.downlink_at-found.ensures ∙ ap told_downlink_step c.in-Command.is) in omega (arith, g.behind, g.fits)
+loop-command-smaller c = let g = found_command _ _ (sym c.downlink_at.ensures ∙ ap told_downlink_step c.in-Command.is) in omega (arith, g.behind, g.fits)
 
 pub loop-command-preserved : goal.loop-command-preserved
 loop-command-preserved c =
-    let g = found_command _ _ (sym c.downlink_at-found.ensures ∙ ap told_downlink_step c.in-Command.is) in
+    let g = found_command _ _ (sym c.downlink_at.ensures ∙ ap told_downlink_step c.in-Command.is) in
     (omega (arith, g.behind, g.fits), omega (arith, g.behind, g.fits), omega arith)

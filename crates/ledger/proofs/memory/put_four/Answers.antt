@@ -1,9 +1,0 @@
--- `put_four` meets its contract. Assumes nothing.
-use native.Mathlib.Omega.{arith}
-use lib.ListN.{length-set}
-use borrow.Author.Rules.{rules}
-use Rattle.ledger.proofs.MemoryRooms.{four_stored}
-use Rattle.ledger.proofs.memory.put_four.Goals as goal
-
-pub returns : goal.returns
-returns c = let a = c.args in four_stored a.memory.now a.at a.one a.two a.three a.four c.requires

@@ -1,6 +1,0 @@
--- The measure is what is left of the runs.
-use Rattle.std.proofs.Common.{◌-◌}
-use Rattle.replay.proofs.lists.unpack.Given as goal
-
-abbrev pub decreases-loop-i : goal.decreases-loop-i
-decreases-loop-i l = l.count - l.i
