@@ -1,6 +1,6 @@
 -- The ledger of parents (RULES: X1 to X16, X18): what a replayed exchange tells, of every outcome that the contracts of `Ledger::new`, `replay_trace`, the
 -- fifteen methods that ask for a setting, and `entry_at` admit.
-use Rattle.std.specs.Prelude.{ℕ, ◌+◌, ◌*◌, ◌<◌, Bool, true, false, ◌↔◌, ◌≡◌, length, drop, Result, None, Some}
+use Rattle.std.specs.Prelude.{ℕ, ◌+◌, ◌*◌, ◌<◌, Bool, true, false, ◌↔◌, ◌≡◌, length, drop, Result, Ok, Err, None, Some}
 use Rattle.std.specs.Prelude as Std
 use Prim.Native.String.{String}
 use mathlib.Core.List.{List, [], ◌∷◌, ◌++◌, reverse, head?}
@@ -8,6 +8,7 @@ use Rattle.std.proofs.Math.Option.{Option, none, some}
 use Rattle.std.specs.Borrow.{Bor, MutBor}
 use Rattle.bits.specs.Every.{Every}
 use Rattle.table.specs.Answers.{Consent, accepted, refused}
+use Rattle.table.specs.Refusals.{number_of}
 use Rattle.text.specs.Characters.{ascii}
 use Rattle.walk.specs.Walk.{Placed, Ending}
 use Rattle.ledger.specs.Asked.{note_of}
@@ -375,6 +376,9 @@ pub record LedgerTells : Type 0 where
   -- X13, X14: a text is refused exactly where its first line at fault is; and what a refusal leaves, of any ledger
   pub refuses_exactly : RefusesExactly
   pub refusals_keep : RefusedLineKeeps
+  -- X14: what is told of an answer is what stands in it, the refusal's number and the line's
+  pub says_which : (e : BadLine) → (told_replay (Err e) ≡ refused (number_of e.reason)) × (told_line (Err e) ≡ e.line)
+  pub says_none : (told_replay (Ok tt) ≡ accepted) × (told_line (Ok tt) ≡ 0)
   -- X1 to X4: the form of what is accepted
   pub form_is : FormIs
   -- X15: a capture can be fed as it comes
