@@ -87,8 +87,8 @@ impl Entries {
         add(WALK_UP, "parse_uplink_mac_commands", walk::up);
         add(CALLS_DOWN, "MacCommandIterator::next, down", walk::calls_down);
         add(CALLS_UP, "MacCommandIterator::next, up", walk::calls_up);
-        add(RECORD_DOWN, "Record::of_downlink", walk::record_down);
-        add(RECORD_UP, "Record::of_uplink", walk::record_up);
+        add(RECORD_DOWN, "Record::from, down", walk::record_down);
+        add(RECORD_UP, "Record::from, up", walk::record_up);
         add(LIST_LEN, "mac_commands_len", build::list_len);
         add(BUILD, "build_mac_commands", build::build);
         add(RECORDS_LEN, "records_len", build::list_len);

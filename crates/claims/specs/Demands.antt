@@ -41,7 +41,8 @@ pub record Demands : Type 2 where
   pub origins_tell : OriginsTell
   -- D3d to D3f: what is built reads back as it was
   pub builds : Builds
-  -- the claims that speak of contracts over the program logic speak of something
+  -- lent's contracts admit exactly what their definitions say, as they are written and read plainly: so the claims that speak of them speak of
+  -- something, and both readings admit the same
   pub by_hand : ByHand
   -- C1 to C4: where in a frame the commands are
   pub chooser : Chooser

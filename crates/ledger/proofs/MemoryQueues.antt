@@ -1,14 +1,17 @@
 -- The open requests and the parents in memory, and what becomes of them where one queue or one row changes. Assumes nothing.
-use Prim.Native.Nat.{ℕ, ◌<◌}
+use Prim.Native.Nat.{ℕ, zero, suc, ◌+◌, ◌-◌, ◌<◌, ◌≤◌}
 use mathlib.Core.Bool.{Bool, true, false, cond}
 use mathlib.Core.List.{List, [], ◌∷◌, ◌++◌, head?, tail, map}
 use mathlib.Core.Option.{none, some}
 use mathlib.Core.Path.{◌≡◌, refl, sym, ap, fun_ext, ◌∙◌}
+use native.Mathlib.Omega.{arith}
 use borrow.Author.Tests.{eqb-true, eqb-false}
 use lib.Dec.{eqb}
 use lib.ListN.{length, get_or, set, take}
 use lib.Seq.{get_or-set_same, get_or-set_other}
 use Rattle.std.specs.Prelude.{None, Some, slice_get}
+use Rattle.std.proofs.Common.{add-one}
+use Rattle.std.proofs.lemmas.List.{length-take-le, get_or-take, same_lists}
 use Rattle.ledger.specs.Book.{put}
 use Rattle.ledger.specs.Events.{Request}
 use Rattle.ledger.specs.Memory.{request_of, open_requests, pending_in, row_in, no_queue, no_parents, parents_in}
@@ -38,6 +41,20 @@ got_first c (x ∷ l) r e = let same : x ≡ r = cc in ap (λ (y : Asked). some 
 pub none_first : (c : ℕ) (l : List Asked) → slice_get l 0 ≡ None → head? (map (request_of c) l) ≡ none
 none_first c [] e = refl
 none_first c (x ∷ l) e = cc
+
+-- the requests behind the first of n, where each has moved to the place before its own
+pub moved_up : (l m : List Asked) (n : ℕ) → 0 < n → n ≤ length l → n ≤ length m → ((k : ℕ) (d : Asked) → k + 1 < n → get_or m k d ≡ get_or l (k + 1) d)
+    → take (n - 1) m ≡ tail (take n l)
+moved_up l m zero z h g e = absurd (omega arith)
+moved_up [] m (suc n) z h g e = absurd (omega arith)
+moved_up (x ∷ l) m (suc n) z h g e =
+    let less : suc n - 1 ≡ n = omega arith in
+    let size : length (take n m) ≡ n = length-take-le n m (omega arith) in
+    rw less
+    (same_lists (take n m) (take n l) (size ∙ sym (length-take-le n l (omega arith)))
+    (λ k d i.
+    let below : k < n = omega arith in
+    get_or-take n m k d below ∙ (rw add-one at (e k d (omega arith))) ∙ sym (get_or-take n l k d below)))
 
 -- ---- the open requests, where one queue changes
 

@@ -119,7 +119,10 @@ impl Queue {
             return None;
         }
         let first = self.requests[0];
-        self.requests.copy_within(1..open, 0);
+        // Swaps and no copy_within: an archive for C would need memmove from outside.
+        for n in 1..open {
+            self.requests.swap(n - 1, n);
+        }
         self.count = open - 1;
         Some(first)
     }

@@ -1,3 +1,5 @@
+pub mod AsWritten
 pub mod Determined
+pub mod Fixing
 pub mod Iteration
 pub mod Packing

@@ -2,13 +2,19 @@
 use crate::{Case, Totals};
 use std::io;
 
+// By hand: `{:02X}` of a byte at a time takes more than twice the instructions.
+fn digits(byte: u8) -> [u8; 2] {
+    let digit = b"0123456789ABCDEF";
+    [digit[usize::from(byte / 16)], digit[usize::from(byte % 16)]]
+}
+
 // Capital hex, `-` for no bytes.
 fn print_bytes(rt: &impl Print, bytes: &[u8]) -> io::Result<()> {
     if bytes.is_empty() {
         print!(rt; "-")?;
     }
     for b in bytes {
-        print!(rt; "{b:02X}")?;
+        rt.write_all(&digits(*b))?;
     }
     Ok(())
 }

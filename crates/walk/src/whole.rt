@@ -8,7 +8,7 @@ use crate::lanes::in_lanes;
 use crate::step::{Step, step_at};
 use table::{Refusal, Rules};
 
-// How a walk ends, and at which offset.
+// How a walk ends, and at which offset. No Result: a stop is no refusal (RULES: F3).
 #[derive(Clone, Copy, PartialEq, Eq)]
 pub enum Outcome {
     End(usize),
